@@ -1,0 +1,13 @@
+pub mod Digits
+pub mod Divides
+pub mod Filter
+pub mod Least
+pub mod ListSums
+pub mod Members
+pub mod Pairs
+pub mod Places
+pub mod Range
+pub mod Rank
+pub mod Sums
+pub mod Tests
+pub mod Words

@@ -1,0 +1,48 @@
+-- Sums over lists. Assumes nothing.
+use mathlib.Core.Path.{_≡_, refl, sym, ap, subst, _∙_, fun-ext}
+use mathlib.Core.Logic.{_≢_, _⊎_, inl, inr}
+use mathlib.Core.Bool.{Bool, true, false, cond, true≢false, _&&_}
+use mathlib.Core.List.{List, [], _∷_, _++_, map, append-nil, List·Memᴰ, List·Memᴰ·head, List·Memᴰ·tail, List·Memᴰ·cases-cons, List·Memᴰ·not-nil, List·Memᴰ·append-cases, Memᴰ·of-map, Memᴰ·cast, Memᴰ·map, Memᴰ·append-left, Memᴰ·append-right}
+use Prim.Native.Nat.{ℕ, zero, suc, _+_, _-_, _*_, _≤_, _<_}
+use native.Mathlib.Nat.{suc-inj, suc-ne-zero, le-refl, eq-or-lt-of-le, add-zero, zero-add, add-suc, suc-add}
+use native.Mathlib.Numerals.{lt-of-le-of-ne}
+use native.Mathlib.Omega.{arith}
+use borrow.Author.Tests.{ne-eqb, eqb-true, eqb-false}
+use lib.Dec.{eqb}
+use lib.ListN.{length, getD, length-append, length-map}
+use Rattle.arith.specs.Lists.{consIf, filter, count, pairs, concatMap, sum, range, elem, leastFrom, nonEmpty}
+use Rattle.arith.specs.Sums.{sumTo, countTo, bit}
+use Rattle.arith.proofs.Tests.{test}
+
+module _ {A : Type 0} where
+  pub sum-mem : (f f′ : A → ℕ) (xs : List A) → ((x : A) → List·Memᴰ x xs → f x ≡ f′ x) → sum (map f xs) ≡ sum (map f′ xs)
+  sum-mem f f′ [] e = refl
+  sum-mem f f′ (x ∷ xs) e = rw (e x (List·Memᴰ·head refl), sum-mem f f′ xs (λ y m. e y (List·Memᴰ·tail m)))
+
+  pub sum-most : (f : A → ℕ) (b : ℕ) (xs : List A) → ((x : A) → f x ≤ b) → sum (map f xs) ≤ b * length xs
+  sum-most f b [] h = omega arith
+  sum-most f b (x ∷ xs) h = omega (arith, h x, sum-most f b xs h)
+
+  pub sum-le : (f f′ : A → ℕ) (xs : List A) → ((x : A) → List·Memᴰ x xs → f x ≤ f′ x) → sum (map f xs) ≤ sum (map f′ xs)
+  sum-le f f′ [] h = omega arith
+  sum-le f f′ (x ∷ xs) h = omega (arith, h x (List·Memᴰ·head refl), sum-le f f′ xs (λ y m. h y (List·Memᴰ·tail m)))
+
+  pub sum-lt : (f f′ : A → ℕ) (xs : List A) {c : A} → ((x : A) → List·Memᴰ x xs → f x ≤ f′ x) → List·Memᴰ c xs → f c < f′ c → sum (map f xs) < sum (map f′ xs)
+  sum-lt f f′ [] h m s = absurd (List·Memᴰ·not-nil m)
+  sum-lt f f′ (x ∷ xs) h m s =
+      elim (List·Memᴰ·cases-cons m) [
+        | inl e ↦ omega (arith, ap f e, ap f′ e, sum-le f f′ xs (λ y m. h y (List·Memᴰ·tail m)))
+        | inr i ↦ omega (arith, h x (List·Memᴰ·head refl), sum-lt f f′ xs (λ y m. h y (List·Memᴰ·tail m)) i s)
+      ]
+
+pub sum-append : {A : Type 0} (f : A → ℕ) (xs ys : List A) → sum (map f (xs ++ ys)) ≡ sum (map f xs) + sum (map f ys)
+sum-append f [] ys = omega arith
+sum-append f (x ∷ xs) ys = omega (arith, sum-append f xs ys)
+
+pub sum-map : {A B : Type 0} (f : B → ℕ) (F : A → B) (xs : List A) → sum (map f (map F xs)) ≡ sum (map (λ x. f (F x)) xs)
+sum-map f F [] = refl
+sum-map f F (x ∷ xs) = ap (λ s. f (F x) + s) (sum-map f F xs)
+
+pub count-sum : {A : Type 0} (q : A → Bool) (xs : List A) → count q xs ≡ sum (map (λ x. bit (q x)) xs)
+count-sum q [] = refl
+count-sum q (x ∷ xs) = elim (test (q x)) [ inl e ↦ rw e (omega (arith, count-sum q xs)) | inr e ↦ rw e (omega (arith, count-sum q xs)) ]

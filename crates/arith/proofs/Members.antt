@@ -1,0 +1,74 @@
+-- What a concatenation has, and lists that have no element twice. Assumes nothing.
+use mathlib.Core.Path.{_≡_, refl, sym, ap, subst, _∙_, fun-ext}
+use mathlib.Core.Logic.{_≢_, _⊎_, inl, inr}
+use mathlib.Core.Bool.{Bool, true, false, cond, true≢false, _&&_}
+use mathlib.Core.List.{List, [], _∷_, _++_, map, append-nil, List·Memᴰ, List·Memᴰ·head, List·Memᴰ·tail, List·Memᴰ·cases-cons, List·Memᴰ·not-nil, List·Memᴰ·append-cases, Memᴰ·of-map, Memᴰ·cast, Memᴰ·map, Memᴰ·append-left, Memᴰ·append-right}
+use Prim.Native.Nat.{ℕ, zero, suc, _+_, _-_, _*_, _≤_, _<_}
+use native.Mathlib.Nat.{suc-inj, suc-ne-zero, le-refl, eq-or-lt-of-le, add-zero, zero-add, add-suc, suc-add}
+use native.Mathlib.Numerals.{lt-of-le-of-ne}
+use native.Mathlib.Omega.{arith}
+use borrow.Author.Tests.{ne-eqb, eqb-true, eqb-false}
+use lib.Dec.{eqb}
+use lib.ListN.{length, getD, length-append, length-map}
+use Rattle.arith.specs.Lists.{consIf, filter, count, pairs, concatMap, sum, range, elem, leastFrom, nonEmpty}
+use Rattle.arith.specs.Sums.{sumTo, countTo, bit}
+use Rattle.arith.proofs.Tests.{test}
+use Rattle.arith.proofs.Filter.{mem-filter}
+
+module _ {A B : Type 0} where
+  pub concat-ext : {F F′ : A → List B} (xs : List A) → ((x : A) → F x ≡ F′ x) → concatMap F xs ≡ concatMap F′ xs
+  concat-ext xs e = ap (λ F. concatMap F xs) (fun-ext e)
+
+  pub concat-mem : (F F′ : A → List B) (xs : List A) → ((x : A) → List·Memᴰ x xs → F x ≡ F′ x) → concatMap F xs ≡ concatMap F′ xs
+  concat-mem F F′ [] e = refl
+  concat-mem F F′ (x ∷ xs) e = rw (e x (List·Memᴰ·head refl), concat-mem F F′ xs (λ y m. e y (List·Memᴰ·tail m)))
+
+module _ {A B : Type 0} (F : A → List B) where
+  pub mem-concat : (xs : List A) {y : B} → List·Memᴰ y (concatMap F xs) → (x : A) × List·Memᴰ x xs × List·Memᴰ y (F x)
+  mem-concat [] m = absurd (List·Memᴰ·not-nil m)
+  mem-concat (x ∷ xs) {y} m =
+      elim (List·Memᴰ·append-cases (F x) m) [
+        | inl i ↦ (x, List·Memᴰ·head refl, i)
+        | inr j ↦ let (z, a, b) = mem-concat xs j in (z, List·Memᴰ·tail a, b)
+      ]
+
+  pub concat-in : (xs : List A) {x : A} {y : B} → List·Memᴰ x xs → List·Memᴰ y (F x) → List·Memᴰ y (concatMap F xs)
+  concat-in [] m i = absurd (List·Memᴰ·not-nil m)
+  concat-in (z ∷ zs) {x} {y} m i =
+      elim (List·Memᴰ·cases-cons m) [
+        | inl e ↦ Memᴰ·append-left (concatMap F zs) (subst (λ w. List·Memᴰ y (F w)) e i)
+        | inr j ↦ Memᴰ·append-right (F z) (concat-in zs j i)
+      ]
+
+pub mem-some {ℓ} : {A : Type ℓ} {x : A} {xs : List A} → List·Memᴰ x xs → 1 ≤ length xs
+mem-some (List·Memᴰ·head e) = omega arith
+mem-some (List·Memᴰ·tail m) = omega arith
+
+module _ {A : Type 0} where
+  abbrev pub Distinct : List A → Type 0
+  Distinct [] = Unit {0}
+  Distinct (x ∷ xs) = (List·Memᴰ x xs → ⊥) × Distinct xs
+
+  pub distinct-append : (xs ys : List A) → Distinct xs → Distinct ys → ((z : A) → List·Memᴰ z xs → List·Memᴰ z ys → ⊥) → Distinct (xs ++ ys)
+  distinct-append [] ys a b d = b
+  distinct-append (x ∷ xs) ys a b d = (
+    λ m. elim (List·Memᴰ·append-cases xs m) [ inl i ↦ a .0 i | inr j ↦ d x (List·Memᴰ·head refl) j ],
+    distinct-append xs ys (a .1) b (λ z i. d z (List·Memᴰ·tail i)),
+  )
+
+  pub distinct-filter : (f : A → Bool) (xs : List A) → Distinct xs → Distinct (filter f xs)
+  distinct-filter f [] d = tt
+  distinct-filter f (x ∷ xs) d =
+      elim (test (f x)) [ inl e ↦ rw e (λ m. d .0 (mem-filter f xs m .0), distinct-filter f xs (d .1)) | inr e ↦ rw e (distinct-filter f xs (d .1)) ]
+
+module _ {A B : Type 0} where
+  pub distinct-map : (F : A → B) → ((x y : A) → F x ≡ F y → x ≡ y) → (xs : List A) → Distinct xs → Distinct (map F xs)
+  distinct-map F inj [] d = tt
+  distinct-map F inj (x ∷ xs) d =
+      (λ m. let (a, i, e) = Memᴰ·of-map F xs m in d .0 (Memᴰ·cast (inj x a (sym e)) i), distinct-map F inj xs (d .1))
+
+  pub distinct-concat : (F : A → List B) → ((x : A) → Distinct (F x)) → ((x y : A) (z : B) → List·Memᴰ z (F x) → List·Memᴰ z (F y) → x ≡ y) → (xs : List A) → Distinct xs → Distinct (concatMap F xs)
+  distinct-concat F each far [] d = tt
+  distinct-concat F each far (x ∷ xs) d =
+      distinct-append (F x) (concatMap F xs) (each x) (distinct-concat F each far xs (d .1))
+      (λ z i j. let (y, a, b) = mem-concat F xs j in d .0 (Memᴰ·cast (far x y z i b) a))

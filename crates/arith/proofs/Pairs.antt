@@ -1,0 +1,63 @@
+-- The pairs of a list. Assumes nothing.
+use mathlib.Core.Path.{_≡_, refl, sym, ap, subst, _∙_, fun-ext}
+use mathlib.Core.Logic.{_≢_, _⊎_, inl, inr}
+use mathlib.Core.Bool.{Bool, true, false, cond, true≢false, _&&_}
+use mathlib.Core.List.{List, [], _∷_, _++_, map, append-nil, List·Memᴰ, List·Memᴰ·head, List·Memᴰ·tail, List·Memᴰ·cases-cons, List·Memᴰ·not-nil, List·Memᴰ·append-cases, Memᴰ·of-map, Memᴰ·cast, Memᴰ·map, Memᴰ·append-left, Memᴰ·append-right}
+use Prim.Native.Nat.{ℕ, zero, suc, _+_, _-_, _*_, _≤_, _<_}
+use native.Mathlib.Nat.{suc-inj, suc-ne-zero, le-refl, eq-or-lt-of-le, add-zero, zero-add, add-suc, suc-add}
+use native.Mathlib.Numerals.{lt-of-le-of-ne}
+use native.Mathlib.Omega.{arith}
+use borrow.Author.Tests.{ne-eqb, eqb-true, eqb-false}
+use lib.Dec.{eqb}
+use lib.ListN.{length, getD, length-append, length-map}
+use Rattle.arith.specs.Lists.{consIf, filter, count, pairs, concatMap, sum, range, elem, leastFrom, nonEmpty}
+use Rattle.arith.specs.Sums.{sumTo, countTo, bit}
+use Rattle.arith.proofs.Members.{mem-some}
+use Rattle.arith.proofs.Range.{Up, mem-up}
+
+module _ {A : Type 0} where
+  -- each two that differ are a pair, one way round
+  pub pairs-in : (xs : List A) {x y : A} → List·Memᴰ x xs → List·Memᴰ y xs → x ≢ y → List·Memᴰ (x, y) (pairs xs) ⊎ List·Memᴰ (y, x) (pairs xs)
+  pairs-in [] m k d = absurd (List·Memᴰ·not-nil m)
+  pairs-in (z ∷ zs) {x} {y} m k d = go (List·Memᴰ·cases-cons m) (List·Memᴰ·cases-cons k) (λ i j. pairs-in zs i j d)
+    where
+      go : (x ≡ z) ⊎ List·Memᴰ x zs → (y ≡ z) ⊎ List·Memᴰ y zs → (List·Memᴰ x zs → List·Memᴰ y zs → List·Memᴰ (x, y) (pairs zs) ⊎ List·Memᴰ (y, x) (pairs zs))
+          → List·Memᴰ (x, y) (pairs (z ∷ zs)) ⊎ List·Memᴰ (y, x) (pairs (z ∷ zs))
+      go (inl p) (inl q) r = absurd (d (p ∙ sym q))
+      go (inl p) (inr j) r = inl (Memᴰ·append-left (pairs zs) (Memᴰ·cast (λ t. (p t, y)) (Memᴰ·map (λ (w : A). (z, w)) j)))
+      go (inr i) (inl q) r = inr (Memᴰ·append-left (pairs zs) (Memᴰ·cast (λ t. (q t, x)) (Memᴰ·map (λ (w : A). (z, w)) i)))
+      go (inr i) (inr j) r = elim (r i j) [ inl a ↦ inl (Memᴰ·append-right (map (λ w. (z, w)) zs) a) | inr a ↦ inr (Memᴰ·append-right (map (λ w. (z, w)) zs) a) ]
+
+pub record Pair (k : ℕ) (xs : List ℕ) (c : ℕ × ℕ) : Type 0 where
+  pub first : List·Memᴰ (c .0) xs
+  pub second : List·Memᴰ (c .1) xs
+  pub less : c .0 < c .1
+  pub two : 2 ≤ length xs
+
+pub mem-pairs : (k : ℕ) (xs : List ℕ) {c : ℕ × ℕ} → Up k xs → List·Memᴰ c (pairs xs) → Pair k xs c
+mem-pairs k [] u m = absurd (List·Memᴰ·not-nil m)
+mem-pairs k (x ∷ xs) {c} u m =
+    elim (List·Memᴰ·append-cases (map (λ y. (x, y)) xs) m) [
+      | inl d ↦
+          let (a, i, e) = Memᴰ·of-map (λ (y : ℕ). (x, y)) xs d in
+          record {
+            first = List·Memᴰ·head (sym (ap (λ t. t .0) e));
+            second = List·Memᴰ·tail (Memᴰ·cast (sym (ap (λ t. t .1) e)) i);
+            less = omega (arith, mem-up xs (u .1) i, ap (λ t. t .0) e, ap (λ t. t .1) e);
+            two = omega (arith, mem-some i);
+          }
+      | inr d ↦ let r : Pair (suc x) xs c = mem-pairs (suc x) xs (u .1) d in
+          record { first = List·Memᴰ·tail (r .first); second = List·Memᴰ·tail (r .second); less = r .less; two = omega (arith, r .two) }
+    ]
+
+suc-sub-one : (d : ℕ) → suc d - 1 ≡ d
+suc-sub-one d = omega arith
+
+pairs-step : (d q : ℕ) → q * 2 ≡ d * (d - 1) → (d + q) * 2 ≡ suc d * (suc d - 1)
+pairs-step zero q h = omega arith
+pairs-step (suc d) q h = omega (arith, rw suc-sub-one at h, suc-sub-one (suc d), ap (λ k. suc (suc d) * k) (suc-sub-one (suc d)))
+
+-- the number of pairs
+pub pairs-twice : {A : Type 0} (xs : List A) → length (pairs xs) * 2 ≡ length xs * (length xs - 1)
+pairs-twice [] = refl
+pairs-twice {A} (x ∷ xs) = rw (length-append {A = A × A}, length-map {B = A × A}) (pairs-step (length xs) (length (pairs xs)) (pairs-twice xs))

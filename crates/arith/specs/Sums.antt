@@ -1,0 +1,29 @@
+-- Sums, counts, packed numbers and filled lists over the numbers below n. Each recurses on n, as a loop over 0..n runs. Assumes nothing.
+use mathlib.Core.Bool.{Bool, true, false}
+use mathlib.Core.List.{List}
+use Prim.Native.Nat.{ℕ, zero, suc, _+_, _*_, _^_}
+use lib.ListN.{set}
+
+-- f 0 + .. + f (n - 1)
+unfoldable pub sumTo : (ℕ → ℕ) → ℕ → ℕ
+sumTo f zero = 0
+sumTo f (suc n) = sumTo f n + f n
+
+-- the number that stands for a test
+abbrev pub bit : Bool → ℕ
+bit true = 1
+bit false = 0
+
+-- how many numbers below n pass a test
+abbrev pub countTo : (ℕ → Bool) → ℕ → ℕ
+countTo p n = sumTo (λ k. bit (p k)) n
+
+-- the number whose binary digit k is p k, for k below n, and that has no other
+abbrev pub packTo : (ℕ → Bool) → ℕ → ℕ
+packTo p n = sumTo (λ k. bit (p k) * 2 ^ k) n
+
+module _ {A : Type 0} where
+  -- the list l with f 0 .. f (n - 1) for its first n elements
+  unfoldable pub fillTo : (ℕ → A) → List A → ℕ → List A
+  fillTo f l zero = l
+  fillTo f l (suc n) = set (fillTo f l n) n (f n)

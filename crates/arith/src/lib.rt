@@ -1,0 +1,1 @@
+// Sums, counts, lists, digits and ranks: definitions in specs/, their laws in proofs/, and no code.

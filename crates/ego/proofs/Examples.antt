@@ -1,0 +1,64 @@
+-- Small graphs, scored by computing the definition. Assumes nothing.
+use mathlib.Core.Bool.{_&&_, false, _||_}
+use mathlib.Core.List.{[], List, _∷_}
+use mathlib.Core.Path.{refl, _≡_}
+use Prim.Native.Nat.{_*_, ℕ}
+use lib.Dec.{eqb}
+use Rattle.ego.specs.Graph.{distance, ego, Graph, inner, neighbours, shortest, walks}
+use Rattle.ego.specs.Limits.{unit}
+use Rattle.ego.specs.Score.{score, share}
+
+-- the edges of a list
+abbrev listed : List (ℕ × ℕ) → Graph
+listed [] a b = false
+listed ((x, y) ∷ l) a b = eqb a x && eqb b y || (eqb a y && eqb b x || listed l a b)
+
+-- a score by the definition
+scored : List (ℕ × ℕ) → ℕ → ℕ → ℕ
+unfolding score share shortest distance walks ego neighbours inner
+scored l n p = score (listed l) n p
+
+-- a star: the middle lies between each two of the others
+abbrev star : List (ℕ × ℕ)
+star = (0, 1) ∷ (0, 2) ∷ (0, 3) ∷ []
+
+star-middle : scored star 4 0 ≡ 3 * unit
+unfolding scored
+star-middle = refl
+
+star-end : scored star 4 1 ≡ 0
+unfolding scored
+star-end = refl
+
+-- a ring of four: the way round by the far node is outside the ego network, so each node scores 1 and not 1/2
+abbrev ring : List (ℕ × ℕ)
+ring = (0, 1) ∷ (1, 2) ∷ (2, 3) ∷ (3, 0) ∷ []
+
+ring-each : scored ring 4 0 ∷ scored ring 4 1 ∷ scored ring 4 2 ∷ scored ring 4 3 ∷ [] ≡ unit ∷ unit ∷ unit ∷ unit ∷ []
+unfolding scored
+ring-each = refl
+
+-- all six edges of four nodes but 2 – 3: the paths from 2 to 3 are by way of 0 and of 1
+abbrev almost : List (ℕ × ℕ)
+almost = (0, 1) ∷ (0, 2) ∷ (0, 3) ∷ (1, 2) ∷ (1, 3) ∷ []
+
+almost-each : scored almost 4 0 ∷ scored almost 4 1 ∷ scored almost 4 2 ∷ scored almost 4 3 ∷ [] ≡ 36100888223400 ∷ 36100888223400 ∷ 0 ∷ 0 ∷ []
+unfolding scored
+almost-each = refl
+
+almost-paths : shortest (listed almost) (ego (listed almost) 4 0) 2 3 ≡ (2 ∷ 0 ∷ 3 ∷ []) ∷ (2 ∷ 1 ∷ 3 ∷ []) ∷ []
+unfolding shortest distance walks ego neighbours
+almost-paths = refl
+
+-- document 000, Example 1: the ego d is 6, its neighbours a b c g h i are 0 to 5; 14/3
+abbrev document : List (ℕ × ℕ)
+document =
+    (6, 0) ∷ (6, 1) ∷ (6, 2) ∷ (6, 3) ∷ (6, 4) ∷ (6, 5) ∷
+    (0, 1) ∷ (0, 2) ∷ (1, 2) ∷ (2, 3) ∷ (2, 4) ∷ (3, 5) ∷ (4, 5) ∷ []
+
+document-ego : scored document 7 6 ≡ 336941623418400
+unfolding scored
+document-ego = refl
+
+document-thirds : _≡_ {A = ℕ} (3 * 336941623418400) (14 * unit)
+document-thirds = refl

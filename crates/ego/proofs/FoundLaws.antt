@@ -1,0 +1,130 @@
+-- The loop that finds a node's neighbours, and what the found nodes are. Assumes nothing.
+use mathlib.Core.Bool.{_&&_, Bool, false, true}
+use mathlib.Core.List.{_++_, [], append-nil, List, _∷_}
+use mathlib.Core.Path.{ap, ap₂, refl, subst, subst₂, sym, _∙_, _≡_}
+use Prim.Native.Nat.{_+_, _<_, ℕ, _≤_}
+use native.Mathlib.Decide.{ℕ-discrete}
+use native.Mathlib.Nat.{le-antisymm}
+use native.Mathlib.Numerals.{add-one}
+use native.Mathlib.Omega.{arith}
+use lib.ListN.{getD, length, length-append, length-replicate, length-set, List·getD-append, replicate, set}
+use lib.Seq.{getD-at, getD-set-other, getD-set-same}
+use Rattle.arith.proofs.Filter.{count-most, mem-filter}
+use Rattle.arith.proofs.Places.{count-places, pairs-places}
+use Rattle.arith.proofs.Range.{count-range, filter-last, length-range, mem-place, mem-range, up-places}
+use Rattle.arith.proofs.Sums.{countTo-ext, sumTo-ext}
+use Rattle.arith.proofs.Tests.{each}
+use Rattle.arith.specs.Lists.{consIf, range}
+use Rattle.arith.specs.Sums.{countTo, sumTo}
+use Rattle.ego.proofs.Shares.{derived, neighbours-up}
+use Rattle.ego.specs.Derived.{common, pairScore, portion}
+use Rattle.ego.specs.Graph.{Graph, neighbours, Simple}
+use Rattle.ego.specs.Limits.{limit}
+use Rattle.ego.specs.Score.{score}
+use Rattle.ego.specs.Words.{Ascending, Found, linkAt, scoreAt}
+use Rattle.packed.proofs.EdgeLaws.{edge-comm, edge-self}
+use Rattle.packed.proofs.PairLaws.{room-mono}
+use Rattle.packed.specs.Edges.{degree, edge}
+use Rattle.packed.specs.Pairs.{Room}
+
+pub simple-edges : (es : List ℕ) → Simple (edge es)
+simple-edges es = record { symmetric = edge-comm es; loopless = λ a. edge-self es a a refl }
+
+-- a degree is a number of neighbours
+pub degree-is : (es : List ℕ) (n p : ℕ) → length (neighbours (edge es) n p) ≡ degree es n p
+unfolding neighbours degree
+degree-is es n p = count-range (edge es p) n
+
+-- ---- the loop: one node more
+
+neighbours-more : (g : Graph) (q p : ℕ) → neighbours g (q + 1) p ≡ neighbours g q p ++ consIf (g p q) q []
+unfolding neighbours
+neighbours-more g q p = rw add-one (filter-last (g p) q)
+
+pub found-few : {es nodes : List ℕ} {q p count : ℕ} → Found es q p nodes count → count ≤ q
+unfolding neighbours
+found-few {es} {q = q} {p = p} f = omega (arith, f .all, count-most (edge es p) (range 0 q), length-range 0 q)
+
+pub found-none : (es : List ℕ) (p : ℕ) → Found es 0 p (replicate limit 0) 0
+unfolding neighbours
+found-none es p = record { size = length-replicate {A = ℕ} limit 0; all = refl; each = λ i h l. absurd (omega arith) }
+
+module _ {es nodes : List ℕ} {q p count : ℕ} (f : Found es q p nodes count) where
+  more : (t : Bool) → edge es p q ≡ t → neighbours (edge es) (q + 1) p ≡ neighbours (edge es) q p ++ consIf t q []
+  more t e = neighbours-more (edge es) q p ∙ ap (λ b. neighbours (edge es) q p ++ consIf b q []) e
+
+  pub found-skip : edge es p q ≡ false → Found es (q + 1) p nodes count
+  found-skip e =
+      let same = more false e ∙ append-nil (neighbours (edge es) q p) in
+      record { size = f .size; all = f .all ∙ ap length (sym same); each = λ i h l. f .each i h l ∙ ap (λ xs. getD xs i 0) (sym same) }
+
+  pushed : edge es p q ≡ true → count + 1 ≡ length (neighbours (edge es) (q + 1) p)
+  pushed e = sym (ap length (more true e) ∙ length-append (neighbours (edge es) q p) (q ∷ []) ∙ ap (λ m. m + 1) (sym (f .all)))
+
+  earlier : edge es p q ≡ true → (i : ℕ) → i < count → i < limit → getD nodes i 0 ≡ getD (neighbours (edge es) (q + 1) p) i 0
+  earlier e i h l =
+      f .each i h l
+      ∙ sym (ap (λ xs. getD xs i 0) (more true e) ∙ List·getD-append (neighbours (edge es) q p) (q ∷ []) 0 i (omega (arith, f .all)))
+
+  pub found-push : edge es p q ≡ true → count < limit → Found es (q + 1) p (set nodes count q) (count + 1)
+  found-push e room = record {
+    size = length-set nodes count q ∙ f .size;
+    all = pushed e;
+    each = λ i h l. elim (ℕ-discrete i count) [
+      | yes s ↦
+          rw s (getD-set-same nodes count q 0 (omega (arith, f .size))
+          ∙ sym (ap (λ xs. getD xs count 0) (more true e) ∙ getD-at (neighbours (edge es) q p) q [] 0 count (sym (f .all))))
+      | no d ↦ getD-set-other nodes count i q 0 d ∙ earlier e i (omega arith) l
+    ];
+  }
+
+  pub found-past : edge es p q ≡ true → limit ≤ count → Found es (q + 1) p nodes (count + 1)
+  found-past e full = record { size = f .size; all = pushed e; each = λ i h l. earlier e i (omega arith) l }
+
+pub found-as : {es nodes nodes′ : List ℕ} {q p count count′ : ℕ} → nodes′ ≡ nodes → count′ ≡ count → Found es q p nodes count → Found es q p nodes′ count′
+found-as {es} {q = q} {p = p} a b f = subst₂ (Found es q p) (sym a) (sym b) f
+
+-- the loop's end: what holds at the variable holds at the range's end
+pub found-end : {es nodes : List ℕ} {q n p count : ℕ} → q ≤ n → n ≤ q → Found es q p nodes count → Found es n p nodes count
+found-end {es} {nodes} {p = p} {count = count} a b f = subst (λ m. Found es m p nodes count) (le-antisymm a b) f
+
+-- ---- the nodes that were found
+
+module _ {es nodes : List ℕ} {n p d : ℕ} (f : Found es n p nodes d) (few : d ≤ limit) where
+  node-is : (i : ℕ) → i < d → getD nodes i 0 ≡ getD (neighbours (edge es) n p) i 0
+  node-is i h = f .each i h (omega arith)
+
+  below : (i : ℕ) → i < d → getD nodes i 0 < n
+  unfolding neighbours
+  below i h =
+      let m = mem-place (neighbours (edge es) n p) i (omega (arith, f .all)) in
+      omega (arith, node-is i h, mem-range 0 n (mem-filter (edge es p) (range 0 n) m .0))
+
+  pub found-ascending : Room n es → Ascending es nodes d
+  found-ascending r = record {
+    few = few;
+    up = λ i j l h. omega (arith, node-is i (omega arith), node-is j h, up-places 0 (neighbours (edge es) n p) (neighbours-up (edge es) n p) i j l (omega (arith, f .all)));
+    room = λ i h. room-mono (omega (arith, below i h)) r;
+  }
+
+  common-at : (i j : ℕ) → i < d → j < d
+      → common (edge es) (neighbours (edge es) n p) (getD (neighbours (edge es) n p) i 0) (getD (neighbours (edge es) n p) j 0)
+      ≡ countTo (λ k. linkAt es nodes i k && linkAt es nodes j k) d
+  unfolding common linkAt
+  common-at i j hi hj =
+      let N = neighbours (edge es) n p in
+      count-places 0 (λ w. edge es (getD N i 0) w && edge es (getD N j 0) w) N
+      ∙ ap (countTo (λ k. edge es (getD N i 0) (getD N k 0) && edge es (getD N j 0) (getD N k 0))) (sym (f .all))
+      ∙ countTo-ext (λ k. edge es (getD N i 0) (getD N k 0) && edge es (getD N j 0) (getD N k 0)) (λ k. linkAt es nodes i k && linkAt es nodes j k) d
+      (λ k h. rw (node-is i hi, node-is j hj, node-is k h))
+
+  -- THE SCORE is the sum over the found nodes.
+  pub found-score : scoreAt (linkAt es nodes) d ≡ score (edge es) n p
+  unfolding scoreAt linkAt pairScore
+  found-score =
+      let N = neighbours (edge es) n p in
+      sumTo-ext _ _ d (λ j hj. sumTo-ext _ _ j (λ i hi.
+      let hi′ : i < d = omega arith in
+      ap₂ portion (ap₂ (edge es) (node-is i hi′) (node-is j hj)) (sym (common-at i j hi′ hj))))
+      ∙ ap (sumTo (λ j. sumTo (λ i. pairScore (edge es) N (getD N i 0, getD N j 0)) j)) (f .all)
+      ∙ sym (derived (edge es) (simple-edges es) n p ∙ pairs-places 0 (pairScore (edge es) N) N)

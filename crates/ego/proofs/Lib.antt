@@ -1,0 +1,11 @@
+pub mod Bounds
+pub mod Changes
+pub mod Complete
+pub mod Exact
+pub mod Examples
+pub mod Faithful
+pub mod FoundLaws
+pub mod Local
+pub mod Shares
+pub mod Walks
+pub mod WordLaws

@@ -1,0 +1,17 @@
+-- The limits of a score. src/limits.rt has the same, once each. Assumes nothing.
+use Prim.Native.Nat.{ℕ}
+
+-- the most edges that a node may have
+abbrev pub limit : ℕ
+limit = 32
+
+-- 01's grains: so many make 1
+abbrev pub unit : ℕ
+unit = 72201776446800
+
+-- the words of a neighbourhood, and the bits of a word
+abbrev pub wordCount : ℕ
+wordCount = limit
+
+abbrev pub wordBits : ℕ
+wordBits = 32

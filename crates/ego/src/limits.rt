@@ -1,0 +1,13 @@
+// The limits of a score. specs/Limits.antt has the same, once each.
+
+// The most edges that a node may have.
+pub const LIMIT: usize = 32;
+
+// The grains that make 1: the least common multiple of 1 .. 31.
+pub const UNIT: u64 = 72201776446800;
+
+// A neighbour's edges within a neighbourhood, a bit for each neighbour.
+pub type Word = u32;
+
+// The words of a neighbourhood.
+pub const WORDS: usize = LIMIT;

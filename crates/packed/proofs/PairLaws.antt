@@ -1,0 +1,82 @@
+-- The laws of the pairs' numbers: each pair of nodes below n has its own number below `pairCount n`, and each such number is a pair's. Assumes nothing.
+use mathlib.Core.List.{List}
+use mathlib.Core.Logic.{_≢_}
+use mathlib.Core.Path.{ap, ap₂, refl, subst, sym, _≡_}
+use Prim.Native.Nat.{_*_, _+_, _-_, _/_, _<_, max, min, suc, zero, ℕ, _≤_}
+use native.Mathlib.Decide.{decLt, le-ind}
+use native.Mathlib.Nat.{le-of-lt, le-refl, le-trans, max-comm, max-eq-right, min-comm, min-eq-left, mul-le-mul, mul-suc, suc-mul}
+use native.Mathlib.Numerals.{sub-one}
+use native.Mathlib.Omega.{arith}
+use lib.ListN.{length}
+use Rattle.packed.specs.Pairs.{maxNodes, pairCount, pairIndex, Room}
+
+square : (n : ℕ) → n * (n - 1) + n ≡ n * n
+square zero = refl
+square (suc m) = rw (sub-one (suc m)) (sym (mul-suc (suc m) m))
+
+-- one node more has a pair with each of the nodes before
+pub pairs-suc : (n : ℕ) → pairCount (suc n) ≡ pairCount n + n
+unfolding pairCount
+pairs-suc n = rw (sub-one (suc n), suc-mul n n) (omega (arith, square n))
+
+pairs-zero : pairCount 0 ≡ 0
+unfolding pairCount
+pairs-zero = refl
+
+pub pairs-mono : {m n : ℕ} → m ≤ n → pairCount m ≤ pairCount n
+pairs-mono {m} {n} h = le-ind (λ (k : ℕ). pairCount m ≤ pairCount k) (le-refl (pairCount m)) (λ k l ih. omega (arith, pairs-suc k)) n h
+
+-- the pair of a and b has a number below the count of the pairs
+pub pair-lt : (a b n : ℕ) → a ≢ b → a < n → b < n → pairIndex a b < pairCount n
+unfolding pairIndex
+pair-lt a b n d ha hb =
+    let h : suc (max a b) ≤ n = omega arith in
+    omega (arith, pairs-mono h, pairs-suc (max a b))
+
+-- which is its own
+pub pair-inj : (a b c d : ℕ) → a ≢ b → c ≢ d → pairIndex a b ≡ pairIndex c d → (max a b ≡ max c d) × (min a b ≡ min c d)
+unfolding pairIndex
+pair-inj a b c d p q e = elim (decLt (max a b) (max c d)) [
+  | yes h ↦ absurd (omega (arith, pairs-mono h, pairs-suc (max a b)))
+  | no g ↦ elim (decLt (max c d) (max a b)) [
+    | yes h ↦ absurd (omega (arith, pairs-mono h, pairs-suc (max c d)))
+    | no h ↦ let t : max a b ≡ max c d = omega arith in (t, omega (arith, ap pairCount t))
+  ]
+]
+
+pub pair-comm : (a b : ℕ) → pairIndex a b ≡ pairIndex b a
+unfolding pairIndex
+pair-comm a b = ap₂ (λ (x y : ℕ). pairCount x + y) (max-comm a b) (min-comm a b)
+
+pub pair-less : (a b : ℕ) → a < b → pairIndex a b ≡ b * (b - 1) / 2 + a
+unfolding pairIndex pairCount
+pair-less a b h = rw (max-eq-right (le-of-lt h), min-eq-left (le-of-lt h))
+
+-- the product of the code is small
+pub product : (b : ℕ) → b < maxNodes → b * (b - 1) ≤ 65025
+product b h = mul-le-mul {n₂ = 255} {m₂ = 255} (omega arith) (omega arith)
+
+-- the bit of a pair is within the bytes
+pub pair-within : (a b n : ℕ) → a ≢ b → pairCount (max a b + 1) ≤ 8 * n → pairIndex a b / 8 < n
+pair-within a b n d h = omega (arith, pair-lt a b (max a b + 1) d (omega arith) (omega arith))
+
+-- room for n nodes is room for fewer
+pub room-mono : {m n : ℕ} {edges : List ℕ} → m ≤ n → Room n edges → Room m edges
+room-mono h r = record { few = omega (arith, r .few); bits = le-trans (pairs-mono h) (r .bits) }
+
+pub room-within : (a b n : ℕ) (edges : List ℕ) → a < n → b < n → Room n edges → Room (max a b + 1) edges
+room-within a b n edges ha hb r = room-mono (omega arith) r
+
+-- the bit of a pair is within the bytes that have room for its second node
+pub pair-room : (a b : ℕ) (edges : List ℕ) → a < b → Room (b + 1) edges → pairIndex a b / 8 < length edges
+pair-room a b edges h r = pair-within a b (length edges) (omega arith) (subst (λ m. pairCount (m + 1) ≤ 8 * length edges) (sym (max-eq-right (le-of-lt h))) (r .bits))
+
+-- each number below `pairCount n` is that of a pair
+pub pair-onto : (n i : ℕ) → i < pairCount n → (a : ℕ) × (b : ℕ) × (a < b) × (b < n) × (pairIndex a b ≡ i)
+unfolding pairIndex
+pair-onto zero i h = absurd (omega (arith, pairs-zero))
+pair-onto (suc n) i h = elim (decLt i (pairCount n)) [
+  | yes l ↦ let r = pair-onto n i l in (r .0, r .1, r .2, omega (arith, r .3), r .4)
+  | no g ↦ let l : i - pairCount n < n = omega (arith, pairs-suc n) in
+      (i - pairCount n, n, l, omega arith, rw (max-eq-right (le-of-lt l), min-eq-left (le-of-lt l)) (omega arith))
+]

@@ -1,0 +1,4 @@
+-- What the contracts of `packed` cite.
+pub mod Bits
+pub mod Edges
+pub mod Pairs

@@ -1,0 +1,60 @@
+// The edges of an undirected graph of at most 256 nodes: a bit for each pair of nodes.
+use crate::bits::get;
+use crate::bits::put;
+ghost use mathlib.Core.Path.{_≡_};
+ghost use Prim.Native.Nat.{_+_, _<_, max};
+ghost use Rattle.packed.specs.Pairs.{maxNodes, pairIndex, Room};
+ghost use Rattle.packed.specs.Edges.{edge, withEdge, degree};
+
+// The most nodes that a graph may have.
+pub const MAX_NODES: usize = 256;
+
+// The bit of the pair of a and b.
+pub fn index(a: usize, b: usize) -> usize
+    requires { ⌜ (a < b) × (b < maxNodes) ⌝ }
+    ensures { λ r. ⌜ r ≡ pairIndex a b ⌝ }
+{
+    b * (b - 1) / 2 + a
+}
+
+// Whether nodes a and b are linked, in either order. No node is linked to itself.
+pub fn has(edges: &[u8], a: usize, b: usize) -> bool
+    requires { ⌜ Room (max a b + 1) (now edges) ⌝ }
+    ensures { λ r. ⌜ r ≡ edge (now (edges .entry)) a b ⌝ }
+{
+    if a < b {
+        return get(edges, index(a, b));
+    }
+    if b < a {
+        return get(edges, index(b, a));
+    }
+    false
+}
+
+// Links nodes a and b where `on`, and takes their edge away elsewhere. A node gets no edge to itself.
+pub fn link(edges: &mut [u8], a: usize, b: usize, on: bool)
+    requires { ⌜ Room (max a b + 1) (now edges) ⌝ }
+    ensures { λ _. ⌜ now (edges .exit) ≡ withEdge (now (edges .entry)) a b on ⌝ }
+{
+    if a < b {
+        put(edges, index(a, b), on);
+        return;
+    }
+    if b < a {
+        put(edges, index(b, a), on);
+    }
+}
+
+// How many of the n nodes are linked to p.
+pub fn degree(edges: &[u8], n: usize, p: usize) -> usize
+    requires { ⌜ (p < n) × Room n (now edges) ⌝ }
+    ensures { λ r. ⌜ r ≡ degree (now (edges .entry)) n p ⌝ }
+{
+    let mut count: usize = 0;
+    for q in 0..n {
+        if has(edges, p, q) {
+            count += 1;
+        }
+    }
+    count
+}

@@ -1,0 +1,3 @@
+// Bits in lent bytes, and the edges of a graph as bits.
+pub mod bits;
+pub mod edges;

@@ -1,0 +1,4 @@
+-- The refusals, and a definition of each call.
+pub mod Sizes
+pub mod Refusal
+pub mod Score
