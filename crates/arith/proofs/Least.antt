@@ -1,18 +1,12 @@
 -- The least number that passes a test. Assumes nothing.
-use mathlib.Core.Path.{_≡_, refl, sym, ap, subst, _∙_, fun-ext}
-use mathlib.Core.Logic.{_≢_, _⊎_, inl, inr}
-use mathlib.Core.Bool.{Bool, true, false, cond, true≢false, _&&_}
-use mathlib.Core.List.{List, [], _∷_, _++_, map, append-nil, List·Memᴰ, List·Memᴰ·head, List·Memᴰ·tail, List·Memᴰ·cases-cons, List·Memᴰ·not-nil, List·Memᴰ·append-cases, Memᴰ·of-map, Memᴰ·cast, Memᴰ·map, Memᴰ·append-left, Memᴰ·append-right}
-use Prim.Native.Nat.{ℕ, zero, suc, _+_, _-_, _*_, _≤_, _<_}
-use native.Mathlib.Nat.{suc-inj, suc-ne-zero, le-refl, eq-or-lt-of-le, add-zero, zero-add, add-suc, suc-add}
+use mathlib.Core.Bool.{Bool, false, true, true≢false}
+use mathlib.Core.Logic.{inl, inr}
+use mathlib.Core.Path.{ap, sym, _∙_, _≡_}
+use Prim.Native.Nat.{_+_, _<_, suc, zero, ℕ, _≤_}
 use native.Mathlib.Numerals.{lt-of-le-of-ne}
 use native.Mathlib.Omega.{arith}
-use borrow.Author.Tests.{ne-eqb, eqb-true, eqb-false}
-use lib.Dec.{eqb}
-use lib.ListN.{length, getD, length-append, length-map}
-use Rattle.arith.specs.Lists.{consIf, filter, count, pairs, concatMap, sum, range, elem, leastFrom, nonEmpty}
-use Rattle.arith.specs.Sums.{sumTo, countTo, bit}
 use Rattle.arith.proofs.Tests.{test}
+use Rattle.arith.specs.Lists.{leastFrom}
 
 module _ (f : ℕ → Bool) where
   pub leastFrom-hit : (k m : ℕ) → f k ≡ true → leastFrom f k (suc m) ≡ k
@@ -32,7 +26,7 @@ module _ (f : ℕ → Bool) where
   leastFrom-two (suc (suc zero)) h a b c = omega arith
   leastFrom-two (suc (suc (suc m))) h a b c = leastFrom-miss 0 (suc (suc m)) a ∙ leastFrom-miss 1 (suc m) b ∙ leastFrom-hit 2 m c
 
-  -- it is the leastFrom, and it passes if one below k + m does
+  -- it is the least, and it passes if one below k + m does
   pub leastFrom-le : (k m j : ℕ) → k ≤ j → f j ≡ true → leastFrom f k m ≤ j
   leastFrom-le k zero j h e = h
   leastFrom-le k (suc m) j h e =

@@ -1,3 +1,4 @@
+pub mod Counts
 pub mod Digits
 pub mod Divides
 pub mod Filter

@@ -1,19 +1,14 @@
 -- What a concatenation has, and lists that have no element twice. Assumes nothing.
-use mathlib.Core.Path.{_≡_, refl, sym, ap, subst, _∙_, fun-ext}
-use mathlib.Core.Logic.{_≢_, _⊎_, inl, inr}
-use mathlib.Core.Bool.{Bool, true, false, cond, true≢false, _&&_}
-use mathlib.Core.List.{List, [], _∷_, _++_, map, append-nil, List·Memᴰ, List·Memᴰ·head, List·Memᴰ·tail, List·Memᴰ·cases-cons, List·Memᴰ·not-nil, List·Memᴰ·append-cases, Memᴰ·of-map, Memᴰ·cast, Memᴰ·map, Memᴰ·append-left, Memᴰ·append-right}
-use Prim.Native.Nat.{ℕ, zero, suc, _+_, _-_, _*_, _≤_, _<_}
-use native.Mathlib.Nat.{suc-inj, suc-ne-zero, le-refl, eq-or-lt-of-le, add-zero, zero-add, add-suc, suc-add}
-use native.Mathlib.Numerals.{lt-of-le-of-ne}
+use mathlib.Core.Bool.{Bool}
+use mathlib.Core.List.{_++_, [], List, List·Memᴰ, List·Memᴰ·append-cases, List·Memᴰ·cases-cons, List·Memᴰ·head, List·Memᴰ·not-nil, List·Memᴰ·tail, map, Memᴰ·append-left, Memᴰ·append-right, Memᴰ·cast, Memᴰ·of-map, _∷_}
+use mathlib.Core.Logic.{inl, inr}
+use mathlib.Core.Path.{ap, fun-ext, refl, subst, sym, _≡_}
+use Prim.Native.Nat.{_≤_}
 use native.Mathlib.Omega.{arith}
-use borrow.Author.Tests.{ne-eqb, eqb-true, eqb-false}
-use lib.Dec.{eqb}
-use lib.ListN.{length, getD, length-append, length-map}
-use Rattle.arith.specs.Lists.{consIf, filter, count, pairs, concatMap, sum, range, elem, leastFrom, nonEmpty}
-use Rattle.arith.specs.Sums.{sumTo, countTo, bit}
-use Rattle.arith.proofs.Tests.{test}
+use lib.ListN.{length}
 use Rattle.arith.proofs.Filter.{mem-filter}
+use Rattle.arith.proofs.Tests.{each, test}
+use Rattle.arith.specs.Lists.{concatMap, filter}
 
 module _ {A B : Type 0} where
   pub concat-ext : {F F′ : A → List B} (xs : List A) → ((x : A) → F x ≡ F′ x) → concatMap F xs ≡ concatMap F′ xs

@@ -1,19 +1,13 @@
 -- The pairs of a list. Assumes nothing.
-use mathlib.Core.Path.{_≡_, refl, sym, ap, subst, _∙_, fun-ext}
-use mathlib.Core.Logic.{_≢_, _⊎_, inl, inr}
-use mathlib.Core.Bool.{Bool, true, false, cond, true≢false, _&&_}
-use mathlib.Core.List.{List, [], _∷_, _++_, map, append-nil, List·Memᴰ, List·Memᴰ·head, List·Memᴰ·tail, List·Memᴰ·cases-cons, List·Memᴰ·not-nil, List·Memᴰ·append-cases, Memᴰ·of-map, Memᴰ·cast, Memᴰ·map, Memᴰ·append-left, Memᴰ·append-right}
-use Prim.Native.Nat.{ℕ, zero, suc, _+_, _-_, _*_, _≤_, _<_}
-use native.Mathlib.Nat.{suc-inj, suc-ne-zero, le-refl, eq-or-lt-of-le, add-zero, zero-add, add-suc, suc-add}
-use native.Mathlib.Numerals.{lt-of-le-of-ne}
+use mathlib.Core.List.{[], List, List·Memᴰ, List·Memᴰ·append-cases, List·Memᴰ·cases-cons, List·Memᴰ·head, List·Memᴰ·not-nil, List·Memᴰ·tail, map, Memᴰ·append-left, Memᴰ·append-right, Memᴰ·cast, Memᴰ·map, Memᴰ·of-map, _∷_}
+use mathlib.Core.Logic.{inl, inr, _≢_, _⊎_}
+use mathlib.Core.Path.{ap, refl, sym, _∙_, _≡_}
+use Prim.Native.Nat.{_*_, _+_, _-_, _<_, suc, zero, ℕ, _≤_}
 use native.Mathlib.Omega.{arith}
-use borrow.Author.Tests.{ne-eqb, eqb-true, eqb-false}
-use lib.Dec.{eqb}
-use lib.ListN.{length, getD, length-append, length-map}
-use Rattle.arith.specs.Lists.{consIf, filter, count, pairs, concatMap, sum, range, elem, leastFrom, nonEmpty}
-use Rattle.arith.specs.Sums.{sumTo, countTo, bit}
+use lib.ListN.{length, length-append, length-map}
 use Rattle.arith.proofs.Members.{mem-some}
-use Rattle.arith.proofs.Range.{Up, mem-up}
+use Rattle.arith.proofs.Range.{mem-up, Up}
+use Rattle.arith.specs.Lists.{pairs}
 
 module _ {A : Type 0} where
   -- each two that differ are a pair, one way round

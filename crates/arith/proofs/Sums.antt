@@ -1,16 +1,17 @@
 -- The laws of `sumTo`, of counts, and of lists filled by a loop. Assumes nothing.
-use mathlib.Core.Bool.{Bool, false, true}
-use mathlib.Core.List.{List}
-use mathlib.Core.Logic.{_≢_, ⊎-elim}
+use mathlib.Core.Bool.{Bool, false, or-true, true, true≢false}
+use mathlib.Core.List.{[], List, _∷_}
+use mathlib.Core.Logic.{inl, inr, _≢_, ⊎-elim}
 use mathlib.Core.Path.{ap, ap₂, refl, sym, _∙_, _≡_}
 use Prim.Native.Nat.{_*_, _+_, _<_, suc, zero, zero-le, ℕ, _≤_}
 use native.Mathlib.Decide.{decLt}
 use native.Mathlib.Nat.{eq-or-lt-of-le, le-antisymm, le-refl, ne-of-lt, suc-mul}
 use native.Mathlib.Numerals.{add-one}
 use native.Mathlib.Omega.{arith}
-use lib.ListN.{getD, length, length-set, set}
-use lib.Seq.{ext-getD, getD-set-other, getD-set-same}
-use Rattle.arith.specs.Sums.{bit, countTo, fillTo, sumTo}
+use lib.ListN.{getD, getD-replicate, length, length-append, length-replicate, length-set, List·getD-append, replicate, set}
+use lib.Seq.{ext-getD, getD-at, getD-set-other, getD-set-same}
+use Rattle.arith.proofs.Tests.{test}
+use Rattle.arith.specs.Sums.{anyTo, bit, countTo, fillTo, sumTo, tabulate}
 
 pub sumTo-none : (f : ℕ → ℕ) → sumTo f 0 ≡ 0
 unfolding sumTo
@@ -100,6 +101,9 @@ module _ {A : Type 0} where
   length-fillTo f l zero = refl
   length-fillTo f l (suc n) = length-set (fillTo f l n) n (f n) ∙ length-fillTo f l n
 
+  pub fill-length : (f : ℕ → A) (l : List A) (n : ℕ) {a : List A} → a ≡ fillTo f l n → length a ≡ length l
+  fill-length f l n e = ap length e ∙ length-fillTo f l n
+
   pub getD-fillTo : (f : ℕ → A) (l : List A) (d : A) (n i : ℕ) → i < n → n ≤ length l → getD (fillTo f l n) i d ≡ f i
   unfolding fillTo
   getD-fillTo f l d zero i h k = absurd (omega arith)
@@ -125,3 +129,69 @@ module _ {A : Type 0} where
         | yes s ↦ getD-fillTo f (fillTo g l m) d n i s (omega arith) ∙ sym (getD-fillTo f l d n i s k)
         | no s ↦ getD-fillTo-past f (fillTo g l m) d n i (omega arith) ∙ getD-fillTo-past g l d m i (omega arith) ∙ sym (getD-fillTo-past f l d n i (omega arith))
       ])
+
+-- ---- a test that some number below n passes
+
+pub anyTo-none : (p : ℕ → Bool) → anyTo p 0 ≡ false
+unfolding anyTo
+anyTo-none p = refl
+
+pub anyTo-more : (p : ℕ → Bool) (n : ℕ) {t : Bool} → anyTo p n ≡ false → p n ≡ t → anyTo p (n + 1) ≡ t
+unfolding anyTo
+anyTo-more p n e q = rw (add-one, e) q
+
+-- one that passes, below the end
+pub anyTo-here : (p : ℕ → Bool) (n i : ℕ) → i < n → p i ≡ true → anyTo p n ≡ true
+unfolding anyTo
+anyTo-here p zero i h e = absurd (omega arith)
+anyTo-here p (suc n) i h e = elim (decLt i n) [
+  | yes l ↦ rw (anyTo-here p n i l e)
+  | no l ↦ let s : n ≡ i = omega arith in rw (ap p s ∙ e) (or-true (anyTo p n))
+]
+
+pub anyTo-false : (p : ℕ → Bool) (n : ℕ) → anyTo p n ≡ false → (i : ℕ) → i < n → p i ≡ false
+anyTo-false p n e i h = elim (test (p i)) [ inl t ↦ absurd (true≢false (sym (anyTo-here p n i h t) ∙ e)) | inr t ↦ t ]
+
+pub anyTo-never : (p : ℕ → Bool) (n : ℕ) → ((i : ℕ) → i < n → p i ≡ false) → anyTo p n ≡ false
+unfolding anyTo
+anyTo-never p zero h = refl
+anyTo-never p (suc n) h = rw (anyTo-never p n (λ i k. h i (omega arith)), h n (omega arith))
+
+pub anyTo-ext : (p q : ℕ → Bool) (n : ℕ) → ((i : ℕ) → i < n → p i ≡ q i) → anyTo p n ≡ anyTo q n
+unfolding anyTo
+anyTo-ext p q zero h = refl
+anyTo-ext p q (suc n) h = rw (anyTo-ext p q n (λ i k. h i (omega arith)), h n (omega arith))
+
+-- ---- tables
+
+module _ {A : Type 0} where
+  pub length-tabulate : (f : ℕ → A) (n : ℕ) → length (tabulate f n) ≡ n
+  unfolding tabulate
+  length-tabulate f zero = refl
+  length-tabulate f (suc n) = length-append (tabulate f n) (f n ∷ []) ∙ add-one (length (tabulate f n)) ∙ ap suc (length-tabulate f n)
+
+  pub getD-tabulate : (f : ℕ → A) (n i : ℕ) (d : A) → i < n → getD (tabulate f n) i d ≡ f i
+  unfolding tabulate
+  getD-tabulate f zero i d h = absurd (omega arith)
+  getD-tabulate f (suc n) i d h = elim (decLt i n) [
+    | yes l ↦ List·getD-append (tabulate f n) (f n ∷ []) d i (omega (arith, length-tabulate f n)) ∙ getD-tabulate f n i d l
+    | no g ↦ let e : n ≡ i = omega arith in getD-at (tabulate f n) (f n) [] d i (length-tabulate f n ∙ e) ∙ ap f e
+  ]
+
+  -- a list of n elements is a table of them
+  pub tabulate-is : (f : ℕ → A) (d : A) (l : List A) → ((i : ℕ) → i < length l → getD l i d ≡ f i) → l ≡ tabulate f (length l)
+  tabulate-is f d l h =
+      ext-getD d l (tabulate f (length l)) (sym (length-tabulate f (length l))) (λ i b. h i b ∙ sym (getD-tabulate f (length l) i d b))
+
+  -- a list that a loop filled to its end
+  pub fill-table : (f : ℕ → A) (l : List A) (d : A) {i n : ℕ} {a : List A} → n ≡ length l → i ≤ n → n ≤ i → a ≡ fillTo f l i → a ≡ tabulate f n
+  fill-table f l d {i} {n} e a b h =
+      let same : i ≡ length l = le-antisymm a b ∙ e in
+      h ∙ ap (fillTo f l) same
+      ∙ tabulate-is f d (fillTo f l (length l)) (λ k g. getD-fillTo f l d (length l) k (omega (arith, length-fillTo f l (length l))) (le-refl (length l)))
+      ∙ ap (tabulate f) (length-fillTo f l (length l) ∙ sym e)
+
+  pub tabulate-same : (x : A) (n : ℕ) → tabulate (λ i. x) n ≡ replicate n x
+  tabulate-same x n =
+      ext-getD x (tabulate (λ i. x) n) (replicate n x) (length-tabulate (λ i. x) n ∙ sym (length-replicate n x))
+      (λ i b. let h : i < n = omega (arith, length-tabulate (λ (i : ℕ). x) n) in getD-tabulate (λ i. x) n i x h ∙ sym (getD-replicate n i x x h))

@@ -1,8 +1,8 @@
 -- Tests: what a Boolean tells, and tests that hold at each number below a bound. Assumes nothing.
-use mathlib.Core.Path.{_≡_, refl, sym, subst, _∙_}
-use mathlib.Core.Logic.{_⊎_, inl, inr}
-use mathlib.Core.Bool.{Bool, true, false, true≢false, _&&_, _||_}
-use Prim.Native.Nat.{ℕ, zero, suc, _<_}
+use mathlib.Core.Bool.{_&&_, Bool, false, not, true, true≢false, _||_}
+use mathlib.Core.Logic.{inl, inr, _⊎_}
+use mathlib.Core.Path.{refl, subst, sym, _≡_}
+use Prim.Native.Nat.{_<_, suc, zero, ℕ}
 use native.Mathlib.Nat.{eq-or-lt-of-le, le-of-suc-le-suc}
 use native.Mathlib.Omega.{arith}
 use borrow.Author.Tests.{eq-eqb}
@@ -18,6 +18,22 @@ eqb-same a = eq-eqb a a refl
 pub and-true : (a b : Bool) → (a && b) ≡ true → (a ≡ true) × (b ≡ true)
 and-true true b e = (refl, e)
 and-true false b e = absurd (true≢false (sym e))
+
+pub or-false-both : (a b : Bool) → (a || b) ≡ false → (a ≡ false) × (b ≡ false)
+or-false-both true b e = absurd (true≢false e)
+or-false-both false b e = (refl, e)
+
+pub and-false : (b : Bool) → b && false ≡ false
+and-false true = refl
+and-false false = refl
+
+pub and-all : (b : Bool) → b && true ≡ b
+and-all true = refl
+and-all false = refl
+
+pub and-not : (b : Bool) → b && not b ≡ false
+and-not true = refl
+and-not false = refl
 
 -- a test that passes at each number below n, as the checker computes it
 abbrev pub each : (ℕ → Bool) → ℕ → Bool

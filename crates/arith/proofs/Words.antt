@@ -1,18 +1,21 @@
 -- Digits as tests: what a shift and a mask test, what a count of ones counts, and what a packed number has. Assumes nothing.
-use mathlib.Core.Path.{_≡_, refl, sym, ap, ap₂, _∙_}
-use mathlib.Core.Bool.{Bool, true, false, _&&_}
+use mathlib.Core.Bool.{_&&_, Bool, false, true}
 use mathlib.Core.Logic.{⊎-elim}
-use Prim.Native.Nat.{ℕ, zero, suc, _+_, _-_, _*_, _/_, _%_, _^_, _≤_, _<_, min}
-use native.Mathlib.Nat.{mod-lt, mod-one, mod-eq-of-lt, mul-add-mod-self-right, add-mul-mod-self-right, add-mul-div-right, div-eq-of-lt, lt-of-le-of-lt, add-comm, zero-mul, one-mul, zero-add, add-zero, pow-suc, eq-or-lt-of-le}
-use native.Mathlib.Numerals.{one-add, add-one}
+use mathlib.Core.Path.{ap, ap₂, refl, sym, _∙_, _≡_}
+use Prim.Native.Nat.{_%_, _*_, _+_, _-_, _/_, _<_, _^_, min, suc, zero, ℕ, _≤_}
+use native.Mathlib.Decide.{ℕ-discrete}
+use native.Mathlib.Nat.{add-comm, add-mul-div-right, add-mul-mod-self-right, div-eq-of-lt, div-mul-le-self, eq-or-lt-of-le, lt-of-le-of-lt, mod-eq-of-lt, mod-lt, mod-one, mul-add-mod-self-right, mul-assoc, one-mul, pow-suc, zero-add, zero-mul}
+use native.Mathlib.Numerals.{one-add}
 use native.Mathlib.Omega.{arith}
-use lib.Dec.{eqb}
-use lib.Bits.{bitAnd, bitOr, or-shifted-r, and-shr, and-step, and-le-l, and-mask}
+use borrow.Author.Tests.{eq-eqb, eqb-false, eqb-true, ne-eqb}
+use lib.Bits.{and-le-l, and-mask, and-shr, and-step, bitAnd, bitOr, or-shifted-r}
 use lib.Count.{ones, ones-cat}
-use lib.Pow.{pow-pos, pow-lt, mod-pow-add, field, mod-mod-pow}
-use Rattle.arith.specs.Sums.{sumTo, bit, countTo, packTo}
-use Rattle.arith.specs.Digits.{digit, bitOf}
-use Rattle.arith.proofs.Sums.{sumTo-more, countTo-ext}
+use lib.Dec.{eqb}
+use lib.Pow.{field, mod-mod-pow, mod-pow-add, pow-add, pow-lt, pow-pos, shl-shr, shr-shr}
+use Rattle.arith.proofs.Digits.{digit-two, digits-eq}
+use Rattle.arith.proofs.Sums.{countTo-ext, sumTo-more}
+use Rattle.arith.specs.Digits.{bitOf, digit}
+use Rattle.arith.specs.Sums.{bit, countTo, packTo, sumTo}
 
 -- a digit below 2 is 0 or 1: what holds of both holds of it
 below-two : (P : ℕ → Type 0) → P 0 → P 1 → (n : ℕ) → n < 2 → P n
@@ -111,3 +114,39 @@ pack-bit p (suc n) k h =
 -- ---- a loop that puts p j at digit j in turn j
 pub pack-more : (p : ℕ → Bool) (j : ℕ) → packTo p j + bit (p j) * 2 ^ j ≡ packTo p (j + 1)
 pack-more p j = sym (sumTo-more _ j)
+
+-- ---- a number is known by its digits as tests
+
+same-digit : (x y : ℕ) → x < 2 → y < 2 → eqb x 1 ≡ eqb y 1 → x ≡ y
+same-digit x y hx hy e = elim (ℕ-discrete y 1) [
+  | yes q ↦ eqb-true x 1 (e ∙ eq-eqb y 1 q) ∙ sym q
+  | no d ↦ let g = eqb-false x 1 (e ∙ ne-eqb y 1 d) in omega arith
+]
+
+pub bits-eq : (w x y : ℕ) → x < 2 ^ w → y < 2 ^ w → ((k : ℕ) → k < w → bitOf x k ≡ bitOf y k) → x ≡ y
+unfolding bitOf
+bits-eq w x y hx hy h = digits-eq w x y hx hy (λ k l. same-digit (digit x k) (digit y k) (digit-two x k) (digit-two y k) (h k l))
+
+pub pack-is : (w x : ℕ) (f : ℕ → Bool) → x < 2 ^ w → ((k : ℕ) → k < w → bitOf x k ≡ f k) → x ≡ packTo f w
+pack-is w x f hx h = bits-eq w x (packTo f w) hx (pack-lt f w) (λ k l. h k l ∙ sym (pack-bit f w k l))
+
+-- ---- a number without its lowest s digits
+
+pub trim-le : (x s : ℕ) → x / 2 ^ s * 2 ^ s ≤ x
+trim-le x s = div-mul-le-self x (2 ^ s)
+
+pub trim-high : (x s j : ℕ) → s ≤ j → bitOf (x / 2 ^ s * 2 ^ s) j ≡ bitOf x j
+unfolding bitOf digit
+trim-high x s j h =
+    let e : s + (j - s) ≡ j = omega arith in
+    let down : (y : ℕ) → y / 2 ^ j ≡ y / 2 ^ s / 2 ^ (j - s) = λ y. ap (λ m. y / 2 ^ m) (sym e) ∙ sym (shr-shr y s (j - s)) in
+    ap (λ y. eqb (y % 2) 1) (down (x / 2 ^ s * 2 ^ s) ∙ ap (λ y. y / 2 ^ (j - s)) (shl-shr (x / 2 ^ s) s) ∙ sym (down x))
+
+pub trim-low : (x s j : ℕ) → j < s → bitOf (x / 2 ^ s * 2 ^ s) j ≡ false
+unfolding bitOf digit
+trim-low x s j h =
+    let a : ℕ = x / 2 ^ s in
+    let r : ℕ = s - suc j in
+    let e : r + 1 + j ≡ s = omega arith in
+    let p : a * 2 ^ s ≡ a * 2 ^ r * 2 * 2 ^ j = ap (λ m. a * 2 ^ m) (sym e) ∙ ap (λ y. a * y) (pow-add 2 (r + 1) j ∙ ap (λ y. y * 2 ^ j) (pow-add 2 r 1)) ∙ sym (mul-assoc a (2 ^ r * 2) (2 ^ j)) ∙ ap (λ y. y * 2 ^ j) (sym (mul-assoc a (2 ^ r) 2)) in
+    ap (λ y. eqb (y % 2) 1) (ap (λ y. y / 2 ^ j) p ∙ shl-shr (a * 2 ^ r * 2) j) ∙ ne-eqb (a * 2 ^ r * 2 % 2) 1 (λ q. omega arith)

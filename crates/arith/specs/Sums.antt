@@ -1,6 +1,6 @@
 -- Sums, counts, packed numbers and filled lists over the numbers below n. Each recurses on n, as a loop over 0..n runs. Assumes nothing.
-use mathlib.Core.Bool.{Bool, true, false}
-use mathlib.Core.List.{List}
+use mathlib.Core.Bool.{Bool, true, false, _||_}
+use mathlib.Core.List.{List, [], _∷_, _++_}
 use Prim.Native.Nat.{ℕ, zero, suc, _+_, _*_, _^_}
 use lib.ListN.{set}
 
@@ -22,7 +22,17 @@ countTo p n = sumTo (λ k. bit (p k)) n
 abbrev pub packTo : (ℕ → Bool) → ℕ → ℕ
 packTo p n = sumTo (λ k. bit (p k) * 2 ^ k) n
 
+-- some number below n passes a test
+unfoldable pub anyTo : (ℕ → Bool) → ℕ → Bool
+anyTo p zero = false
+anyTo p (suc n) = anyTo p n || p n
+
 module _ {A : Type 0} where
+  -- f 0, .., f (n - 1)
+  unfoldable pub tabulate : (ℕ → A) → ℕ → List A
+  tabulate f zero = []
+  tabulate f (suc n) = tabulate f n ++ f n ∷ []
+
   -- the list l with f 0 .. f (n - 1) for its first n elements
   unfoldable pub fillTo : (ℕ → A) → List A → ℕ → List A
   fillTo f l zero = l

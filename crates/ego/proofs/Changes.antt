@@ -10,7 +10,7 @@ use native.Mathlib.Nat.{div-mul-le-self, le-div-iff-mul-le, le-trans, mul-le-mul
 use native.Mathlib.Omega.{arith}
 use lib.ListN.{length}
 use Rattle.arith.proofs.Filter.{count-le, count-most, filter-ext, filter-in}
-use Rattle.arith.proofs.ListSums.{sum-lt}
+use Rattle.arith.proofs.ListSums.{sum-le, sum-lt}
 use Rattle.arith.proofs.Pairs.{pairs-in}
 use Rattle.arith.proofs.Range.{range-mem}
 use Rattle.arith.proofs.Tests.{and-true, test}
@@ -19,7 +19,7 @@ use Rattle.ego.proofs.Local.{score-same}
 use Rattle.ego.proofs.Shares.{derived, neighbours-linked}
 use Rattle.ego.specs.Change.{Gains}
 use Rattle.ego.specs.Derived.{common, pairScore, portion}
-use Rattle.ego.specs.Graph.{ego, Graph, neighbours}
+use Rattle.ego.specs.Graph.{degree, ego, Graph, neighbours}
 use Rattle.ego.specs.Limits.{limit, unit}
 use Rattle.ego.specs.Score.{score}
 
@@ -64,7 +64,16 @@ module _ (g g′ : Graph) (u v : ℕ) (change : Gains g g′ u v) where
   unfolding neighbours
   gains-near n w wu wv = filter-ext (range 0 n) (λ q. change .others w q (λ x y. wu x) (λ x y. wv x))
 
-  module _ (n w : ℕ) (wu : g w u ≡ true) (wv : g w v ≡ true) (un : u < n) (vn : v < n) (few : length (neighbours g n w) ≤ limit) where
+  pub gains-degree : (n w : ℕ) → w ≢ u → w ≢ v → degree g n w ≡ degree g′ n w
+  unfolding degree
+  gains-degree n w wu wv = ap length (gains-near n w wu wv)
+
+  -- no node but the ends scores more with the edge, whatever its degree
+  pub common-at-most : (n w : ℕ) → w ≢ u → w ≢ v → score g′ n w ≤ score g n w
+  common-at-most n w wu wv = rw (derived g (change .old) n w, derived g′ (change .new) n w, ← gains-near n w wu wv)
+      (sum-le _ _ (pairs (neighbours g n w)) (λ c i. pairScore-down g g′ (neighbours g n w) gains-more c))
+
+  module _ (n w : ℕ) (wu : g w u ≡ true) (wv : g w v ≡ true) (un : u < n) (vn : v < n) (few : degree g n w ≤ limit) where
     near : neighbours g n w ≡ neighbours g′ n w
     near = gains-near n w
         (λ e. true≢false (sym wu ∙ ap (λ x. g x u) e ∙ change .old .loopless u))
@@ -75,7 +84,7 @@ module _ (g g′ : Graph) (u v : ℕ) (change : Gains g g′ u v) where
     is-near x e h = filter-in (g w) (range 0 n) (range-mem 0 n (omega arith) (omega arith)) e
 
     lost : (a b : ℕ) → g a b ≡ false → g′ a b ≡ true → pairScore g′ (neighbours g n w) (a, b) < pairScore g (neighbours g n w) (a, b)
-    unfolding pairScore portion common
+    unfolding pairScore portion common degree
     lost a b e d = rw (d, e) (le-div-iff-mul-le {k = common g (neighbours g n w) a b + 1} (omega arith) .1 (omega (arith, count-most (λ x. g a x && g b x) (neighbours g n w))))
 
     -- A COMMON NEIGHBOUR of the ends scores less with the edge, and more without it.

@@ -1,4 +1,4 @@
--- The list of the walks elem every walk, and each once; so elem that of the shortest. Assumes nothing.
+-- The list of the walks has every walk, and each once; so has that of the shortest. Assumes nothing.
 use mathlib.Core.Bool.{Bool, true, true≢false}
 use mathlib.Core.List.{[], List, List·Memᴰ, List·Memᴰ·cases-cons, List·Memᴰ·head, List·Memᴰ·not-nil, List·Memᴰ·tail, map, Memᴰ·cast, Memᴰ·map, Memᴰ·of-map, tail-eq-of-cons-eq, _∷_}
 use mathlib.Core.Logic.{inl, inr}
@@ -95,7 +95,7 @@ module _ (g : Graph) (h : List ℕ) where
       let r = sound (distance g h u v) u v m in
       record { walk = r .0; minimal = λ l′ w. omega (arith, r .1, distance-le u v w) }
 
-  -- where there is a walk that elem no more nodes than h
+  -- where there is a walk that has no more nodes than h
   pub all-shortest : (u v : ℕ) {o l : List ℕ} → Walk g h u v o → length o ≤ length h → Shortest g h u v l → List·Memᴰ l (shortest g h u v)
   unfolding shortest distance
   all-shortest u v {o} {l} w short s =

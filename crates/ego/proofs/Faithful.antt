@@ -1,4 +1,4 @@
--- Of two neighbours of p, the list `shortest` in p's neighbourhood elem the shortest walks and no other, each once. Assumes nothing.
+-- Of a pair of p's neighbours, the list `shortest` has every shortest walk inside p's ego network, no other, and each once. Assumes nothing.
 use mathlib.Core.Bool.{_&&_, true≢false}
 use mathlib.Core.List.{[], List, List·Memᴰ, List·Memᴰ·cases-cons, List·Memᴰ·eq-of-singleton, List·Memᴰ·head, List·Memᴰ·not-nil, List·Memᴰ·tail, Memᴰ·of-map, _∷_}
 use mathlib.Core.Logic.{inl, inr, _↔_, _≢_}

@@ -18,22 +18,22 @@ use Rattle.arith.specs.Lists.{consIf, range}
 use Rattle.arith.specs.Sums.{countTo, sumTo}
 use Rattle.ego.proofs.Shares.{derived, neighbours-up}
 use Rattle.ego.specs.Derived.{common, pairScore, portion}
-use Rattle.ego.specs.Graph.{Graph, neighbours, Simple}
+use Rattle.ego.specs.Graph.{degree, Graph, neighbours, Simple}
 use Rattle.ego.specs.Limits.{limit}
 use Rattle.ego.specs.Score.{score}
 use Rattle.ego.specs.Words.{Ascending, Found, linkAt, scoreAt}
 use Rattle.packed.proofs.EdgeLaws.{edge-comm, edge-self}
 use Rattle.packed.proofs.PairLaws.{room-mono}
-use Rattle.packed.specs.Edges.{degree, edge}
+use Rattle.packed.specs.Edges.{edge}
 use Rattle.packed.specs.Pairs.{Room}
 
 pub simple-edges : (es : List ℕ) → Simple (edge es)
 simple-edges es = record { symmetric = edge-comm es; loopless = λ a. edge-self es a a refl }
 
--- a degree is a number of neighbours
-pub degree-is : (es : List ℕ) (n p : ℕ) → length (neighbours (edge es) n p) ≡ degree es n p
+-- a degree is a count of the nodes below n
+pub degree-is : (g : Graph) (n p : ℕ) → degree g n p ≡ countTo (g p) n
 unfolding neighbours degree
-degree-is es n p = count-range (edge es p) n
+degree-is g n p = count-range (g p) n
 
 -- ---- the loop: one node more
 
@@ -87,6 +87,10 @@ found-as {es} {q = q} {p = p} a b f = subst₂ (Found es q p) (sym a) (sym b) f
 -- the loop's end: what holds at the variable holds at the range's end
 pub found-end : {es nodes : List ℕ} {q n p count : ℕ} → q ≤ n → n ≤ q → Found es q p nodes count → Found es n p nodes count
 found-end {es} {nodes} {p = p} {count = count} a b f = subst (λ m. Found es m p nodes count) (le-antisymm a b) f
+
+pub found-degree : {es nodes : List ℕ} {n p count : ℕ} → Found es n p nodes count → count ≡ degree (edge es) n p
+unfolding degree
+found-degree f = f .all
 
 -- ---- the nodes that were found
 

@@ -1,3 +1,4 @@
+pub mod Agreement
 pub mod Bounds
 pub mod Changes
 pub mod Complete
@@ -8,4 +9,5 @@ pub mod FoundLaws
 pub mod Local
 pub mod Shares
 pub mod Walks
+pub mod WithPair
 pub mod WordLaws

@@ -1,7 +1,8 @@
 -- Two graphs that differ in one edge. Assumes nothing.
+use mathlib.Core.Bool.{_&&_, Bool, cond, false, true, _||_}
 use mathlib.Core.Path.{_≡_}
-use mathlib.Core.Bool.{true, false}
 use Prim.Native.Nat.{ℕ}
+use lib.Dec.{eqb}
 use Rattle.ego.specs.Graph.{Graph, Simple}
 
 -- g′ is g with the edge u, v more; so g is g′ with that edge removed
@@ -11,3 +12,7 @@ pub record Gains (g g′ : Graph) (u v : ℕ) : Type 0 where
   pub absent : g u v ≡ false
   pub present : g′ u v ≡ true
   pub others : (a b : ℕ) → (a ≡ u → b ≡ v → ⊥) → (a ≡ v → b ≡ u → ⊥) → g a b ≡ g′ a b
+
+-- the pair a, b put in or taken out
+unfoldable pub withPair : Graph → ℕ → ℕ → Bool → Graph
+withPair g a b on x y = cond ((eqb x a && eqb y b) || (eqb x b && eqb y a)) on (g x y)

@@ -20,6 +20,10 @@ pub record Simple (g : Graph) : Type 0 where
 unfoldable pub neighbours : Graph → ℕ → ℕ → List ℕ
 neighbours g n p = filter (g p) (range 0 n)
 
+-- How many edges p has.
+unfoldable pub degree : Graph → ℕ → ℕ → ℕ
+degree g n p = length (neighbours g n p)
+
 -- The nodes of p's ego network (01's neighbourhood): p and its neighbours. Its edges are those of the graph among these.
 unfoldable pub ego : Graph → ℕ → ℕ → List ℕ
 ego g n p = p ∷ neighbours g n p

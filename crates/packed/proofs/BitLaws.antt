@@ -1,23 +1,25 @@
 -- The laws of packed bits: a bit that was written is read back, every other bit is as it was, the length and the bytes' range are kept, and a
 -- list of bytes is known by its bits. `get-is`, `on-is` and `off-is` say what the masks of the code compute. Assumes nothing.
-use mathlib.Core.Path.{_≡_, refl, sym, ap, _∙_, subst}
-use mathlib.Core.Logic.{_≢_}
-use mathlib.Core.Bool.{Bool, true, false, not}
+use mathlib.Core.Bool.{Bool, false, not, true}
 use mathlib.Core.List.{List}
-use Prim.Native.Nat.{ℕ, zero, suc, _+_, _-_, _*_, _/_, _%_, _^_, _≤_, _<_}
+use mathlib.Core.Logic.{_≢_}
+use mathlib.Core.Path.{ap, ap₂, refl, sym, _∙_, _≡_}
+use Prim.Native.Nat.{_%_, _*_, _+_, _-_, _/_, _<_, _^_, suc, zero, ℕ, _≤_}
 use native.Mathlib.Decide.{decLt, ℕ-discrete}
-use native.Mathlib.Nat.{zero-mul, one-mul, zero-div}
+use native.Mathlib.Nat.{one-mul, zero-div, zero-mul}
 use native.Mathlib.Omega.{arith}
-use borrow.Author.Tests.{eqb-true, eqb-false, eq-eqb, ne-eqb}
+use borrow.Author.Tests.{ne-eqb}
 use lib.Bits.{bitAnd, bitOr}
 use lib.Dec.{eqb, lit<}
-use lib.ListN.{length, getD, set, replicate, length-set, length-replicate, getD-replicate, List·getD-eq-default}
+use lib.ListN.{getD, getD-replicate, length, length-replicate, length-set, List·getD-eq-default, replicate}
 use lib.Pow.{pow-lt, pow-pos}
-use lib.Seq.{getD-set-same, getD-set-other, set-out, ext-getD}
-use Rattle.arith.specs.Sums.{bit}
-use Rattle.arith.specs.Digits.{digit, bitOf, withDigit}
-use Rattle.packed.specs.Bits.{bitAt, withBit, Bytes}
-use Rattle.arith.proofs.Digits.{digit-two, and-pow, or-is, and-not-is, mask-is, with-same, with-other, with-lt, digits-eq}
+use lib.Seq.{ext-getD, getD-set-other, getD-set-same, set-out}
+use Rattle.arith.proofs.Digits.{and-not-is, and-pow, digit-two, mask-is, or-is, with-lt, with-other, with-same}
+use Rattle.arith.proofs.Sums.{getD-tabulate, length-tabulate}
+use Rattle.arith.proofs.Words.{bits-eq, pack-bit, pack-lt}
+use Rattle.arith.specs.Digits.{bitOf, digit, withDigit}
+use Rattle.arith.specs.Sums.{bit, packTo, tabulate}
+use Rattle.packed.specs.Bits.{bitAt, Bytes, bytesOf, withBit}
 
 pub bit-two : (on : Bool) → bit on < 2
 bit-two true = lit< tt
@@ -83,22 +85,15 @@ bytes-with-bit xs i on f k = elim (decLt (i / 8) (length xs)) [
   | no h ↦ rw (set-out xs (i / 8) (withDigit (getD xs (i / 8) 0) (7 - i % 8) (bit on)) (omega arith)) (f k)
 ]
 
--- a digit is known by its test
-same-digit : (x y : ℕ) → x < 2 → y < 2 → eqb x 1 ≡ eqb y 1 → x ≡ y
-same-digit x y hx hy e = elim (ℕ-discrete y 1) [
-  | yes q ↦ eqb-true x 1 (e ∙ eq-eqb y 1 q) ∙ sym q
-  | no d ↦ let g = eqb-false x 1 (e ∙ ne-eqb y 1 d) in omega arith
-]
-
 -- the bytes are known by their bits
 pub same-bits : (xs ys : List ℕ) → length xs ≡ length ys → Bytes xs → Bytes ys → ((i : ℕ) → i < 8 * length xs → bitAt xs i ≡ bitAt ys i) → xs ≡ ys
-unfolding bitAt bitOf
-same-bits xs ys e f g h = ext-getD 0 xs ys e (λ q l. digits-eq 8 (getD xs q 0) (getD ys q 0) (f q) (g q) (λ k b.
+unfolding bitAt
+same-bits xs ys e f g h = ext-getD 0 xs ys e (λ q l. bits-eq 8 (getD xs q 0) (getD ys q 0) (f q) (g q) (λ k b.
     let i : ℕ = q * 8 + (7 - k) in
     let eq : i / 8 ≡ q = omega arith in
     let ek : 7 - i % 8 ≡ k = omega arith in
     let t = h i (omega arith) in
-    same-digit (digit (getD xs q 0) k) (digit (getD ys q 0) k) (digit-two (getD xs q 0) k) (digit-two (getD ys q 0) k) (rw (eq, ek) at t)))
+    rw (eq, ek) at t))
 
 digit-zero : (k : ℕ) → digit 0 k ≡ 0
 unfolding digit
@@ -114,3 +109,40 @@ bit-zeros n i = rw (zeros n (i / 8), digit-zero (7 - i % 8))
       | yes h ↦ getD-replicate m j 0 0 h
       | no h ↦ List·getD-eq-default (replicate m 0) 0 (omega (arith, length-replicate {A = ℕ} m 0))
     ]
+
+-- ---- bytes made of their bits
+
+pub length-bytesOf : (f : ℕ → Bool) (m : ℕ) → length (bytesOf f m) ≡ m
+unfolding bytesOf
+length-bytesOf f m = length-tabulate _ m
+
+pub bit-bytesOf : (f : ℕ → Bool) (m i : ℕ) → i < 8 * m → bitAt (bytesOf f m) i ≡ f i
+unfolding bitAt bytesOf
+bit-bytesOf f m i h =
+    let k : ℕ = 7 - i % 8 in
+    ap (λ x. bitOf x k) (getD-tabulate (λ k. packTo (λ j. f (8 * k + (7 - j))) 8) m (i / 8) 0 (omega arith))
+    ∙ pack-bit (λ j. f (8 * (i / 8) + (7 - j))) 8 k (omega arith)
+    ∙ ap f (omega arith)
+
+pub bytes-bytesOf : (f : ℕ → Bool) (m : ℕ) → Bytes (bytesOf f m)
+unfolding bytesOf
+bytes-bytesOf f m k =
+    let byte : ℕ → ℕ = λ k. packTo (λ j. f (8 * k + (7 - j))) 8 in
+    elim (decLt k m) [
+      | yes h ↦ rw (getD-tabulate byte m k 0 h) (pack-lt (λ j. f (8 * k + (7 - j))) 8)
+      | no h ↦ let past : length (tabulate byte m) ≤ k = omega (arith, length-tabulate byte m) in rw (List·getD-eq-default (tabulate byte m) 0 past) (lit< tt)
+    ]
+
+-- bytes whose every bit is f's are made of f
+pub bytesOf-is : (f : ℕ → Bool) (xs : List ℕ) → Bytes xs → ((i : ℕ) → i < 8 * length xs → bitAt xs i ≡ f i) → xs ≡ bytesOf f (length xs)
+bytesOf-is f xs b h =
+    same-bits xs (bytesOf f (length xs)) (sym (length-bytesOf f (length xs))) b (bytes-bytesOf f (length xs)) (λ i k. h i k ∙ sym (bit-bytesOf f (length xs) i k))
+
+-- bit j of byte k
+pub byte-bit : (xs : List ℕ) (k j : ℕ) → j < 8 → bitAt xs (8 * k + (7 - j)) ≡ bitOf (getD xs k 0) j
+unfolding bitAt
+byte-bit xs k j h =
+    let i : ℕ = 8 * k + (7 - j) in
+    let q : i / 8 ≡ k = omega arith in
+    let d : 7 - i % 8 ≡ j = omega arith in
+    ap₂ (λ m e. bitOf (getD xs m 0) e) q d

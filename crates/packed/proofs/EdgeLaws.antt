@@ -1,22 +1,19 @@
 -- The laws of edges: an edge that was written is read back, every other edge is as it was, and the bytes are known by the edges and by the
 -- bits past them. Assumes nothing.
-use mathlib.Core.Path.{_≡_, refl, sym, ap, subst, _∙_}
-use mathlib.Core.Logic.{_≢_}
-use mathlib.Core.Bool.{Bool, true, false, not, _&&_}
+use mathlib.Core.Bool.{Bool, false}
 use mathlib.Core.List.{List}
-use Prim.Native.Nat.{ℕ, zero, suc, _+_, _*_, _/_, _≤_, _<_, min, max}
+use mathlib.Core.Logic.{_≢_}
+use mathlib.Core.Path.{ap, subst, sym, _∙_, _≡_}
+use Prim.Native.Nat.{_/_, _<_, max, min, ℕ, _≤_}
 use native.Mathlib.Decide.{decLt, ℕ-discrete}
 use native.Mathlib.Omega.{arith}
 use borrow.Author.Tests.{eq-eqb, ne-eqb}
-use lib.Dec.{eqb}
 use lib.ListN.{length}
-use Rattle.arith.specs.Sums.{bit, countTo}
-use Rattle.arith.proofs.Sums.{count-more}
-use Rattle.packed.specs.Bits.{bitAt, withBit, Bytes}
-use Rattle.packed.specs.Pairs.{pairCount, pairIndex, Room}
-use Rattle.packed.specs.Edges.{edge, withEdge, degree}
-use Rattle.packed.proofs.BitLaws.{length-with-bit, bit-with-same, bit-with-other, bytes-with-bit, same-bits}
-use Rattle.packed.proofs.PairLaws.{pair-inj, pair-lt, pair-onto, pair-comm, pair-within}
+use Rattle.packed.proofs.BitLaws.{bit-with-other, bit-with-same, bytes-with-bit, length-with-bit, same-bits}
+use Rattle.packed.proofs.PairLaws.{pair-comm, pair-inj, pair-lt, pair-onto}
+use Rattle.packed.specs.Bits.{bitAt, Bytes, withBit}
+use Rattle.packed.specs.Edges.{edge, withEdge}
+use Rattle.packed.specs.Pairs.{pairCount, pairIndex}
 
 pub edge-two : (es : List ℕ) (a b : ℕ) → a ≢ b → edge es a b ≡ bitAt es (pairIndex a b)
 unfolding edge
@@ -32,11 +29,6 @@ edge-comm es a b = elim (ℕ-discrete a b) [
   | yes e ↦ rw (eq-eqb a b e, eq-eqb b a (sym e))
   | no d ↦ rw (ne-eqb a b d, ne-eqb b a (λ e. d (sym e)), pair-comm a b)
 ]
-
--- one node more
-pub degree-more : (es : List ℕ) (p q : ℕ) (t : Bool) → edge es p q ≡ t → degree es (q + 1) p ≡ degree es q p + bit t
-unfolding degree
-degree-more es p q t e = count-more (edge es p) q t e
 
 pub with-two : (es : List ℕ) (a b : ℕ) (on : Bool) → a ≢ b → withEdge es a b on ≡ withBit es (pairIndex a b) on
 unfolding withEdge

@@ -1,10 +1,10 @@
 -- The laws of the pairs' numbers: each pair of nodes below n has its own number below `pairCount n`, and each such number is a pair's. Assumes nothing.
 use mathlib.Core.List.{List}
 use mathlib.Core.Logic.{_≢_}
-use mathlib.Core.Path.{ap, ap₂, refl, subst, sym, _≡_}
-use Prim.Native.Nat.{_*_, _+_, _-_, _/_, _<_, max, min, suc, zero, ℕ, _≤_}
+use mathlib.Core.Path.{ap, ap₂, refl, subst, sym, _∙_, _≡_}
+use Prim.Native.Nat.{_*_, _+_, _-_, _/_, _<_, max, min, suc, zero, zero-le, ℕ, _≤_}
 use native.Mathlib.Decide.{decLt, le-ind}
-use native.Mathlib.Nat.{le-of-lt, le-refl, le-trans, max-comm, max-eq-right, min-comm, min-eq-left, mul-le-mul, mul-suc, suc-mul}
+use native.Mathlib.Nat.{le-of-lt, le-refl, le-trans, max-comm, max-eq-right, min-comm, min-eq-left, mul-le-mul, mul-one, mul-sub, mul-suc, suc-mul}
 use native.Mathlib.Numerals.{sub-one}
 use native.Mathlib.Omega.{arith}
 use lib.ListN.{length}
@@ -80,3 +80,11 @@ pair-onto (suc n) i h = elim (decLt i (pairCount n)) [
   | no g ↦ let l : i - pairCount n < n = omega (arith, pairs-suc n) in
       (i - pairCount n, n, l, omega arith, rw (max-eq-right (le-of-lt l), min-eq-left (le-of-lt l)) (omega arith))
 ]
+
+-- a product less one factor, as code computes it from a square
+pub pred-square : (d : ℕ) → d * (d - 1) ≡ d * d - d
+pred-square d = mul-sub d d 1 ∙ ap (λ x. d * d - x) (mul-one d)
+
+pub le-square : (d : ℕ) → d ≤ d * d
+le-square zero = zero-le
+le-square (suc d) = omega (arith, suc-mul d (suc d))

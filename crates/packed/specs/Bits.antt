@@ -1,10 +1,10 @@
 -- Bits packed into bytes, the most significant first: bit i is in byte i / 8, at its digit 7 - i % 8. Assumes nothing.
 use mathlib.Core.Bool.{Bool}
 use mathlib.Core.List.{List}
-use Prim.Native.Nat.{ℕ, _+_, _-_, _/_, _%_, _<_}
+use Prim.Native.Nat.{ℕ, _+_, _-_, _*_, _/_, _%_, _<_}
 use lib.ListN.{getD, set}
 use Rattle.arith.specs.Digits.{bitOf, withDigit}
-use Rattle.arith.specs.Sums.{bit}
+use Rattle.arith.specs.Sums.{bit, packTo, tabulate}
 
 -- bit i
 unfoldable pub bitAt : List ℕ → ℕ → Bool
@@ -13,6 +13,10 @@ bitAt bytes i = bitOf (getD bytes (i / 8) 0) (7 - i % 8)
 -- the bytes with `on` for their bit i
 unfoldable pub withBit : List ℕ → ℕ → Bool → List ℕ
 withBit bytes i on = set bytes (i / 8) (withDigit (getD bytes (i / 8) 0) (7 - i % 8) (bit on))
+
+-- m bytes whose bit i is f i
+unfoldable pub bytesOf : (ℕ → Bool) → ℕ → List ℕ
+bytesOf f m = tabulate (λ k. packTo (λ j. f (8 * k + (7 - j))) 8) m
 
 -- how many bytes hold m bits
 abbrev pub bytesFor : ℕ → ℕ

@@ -3,7 +3,6 @@ use mathlib.Core.Bool.{Bool, cond, not, _&&_}
 use mathlib.Core.List.{List}
 use Prim.Native.Nat.{ℕ}
 use lib.Dec.{eqb}
-use Rattle.arith.specs.Sums.{countTo}
 use Rattle.packed.specs.Bits.{bitAt, withBit}
 use Rattle.packed.specs.Pairs.{pairIndex}
 
@@ -14,7 +13,3 @@ edge edges a b = not (eqb a b) && bitAt edges (pairIndex a b)
 -- a and b, if they are two nodes, linked or not
 unfoldable pub withEdge : List ℕ → ℕ → ℕ → Bool → List ℕ
 withEdge edges a b on = cond (eqb a b) edges (withBit edges (pairIndex a b) on)
-
--- how many of the nodes below n are linked to p
-unfoldable pub degree : List ℕ → ℕ → ℕ → ℕ
-degree edges n p = countTo (edge edges p) n

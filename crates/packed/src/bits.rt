@@ -1,7 +1,7 @@
 // Bits packed into a lent slice of bytes, the most significant bit of a byte first.
 ghost use mathlib.Core.Path.{_≡_};
 ghost use Prim.Native.Nat.{_/_, _<_};
-ghost use lib.ListN.{length};
+ghost use lib.ListN.{length, replicate};
 ghost use Rattle.packed.specs.Bits.{bitAt, withBit};
 
 // Bit i.
@@ -22,5 +22,14 @@ pub fn put(bits: &mut [u8], i: usize, on: bool)
         bits[i / 8] = bits[i / 8] | mask;
     } else {
         bits[i / 8] = bits[i / 8] & !mask;
+    }
+}
+
+// Clears every bit.
+pub fn zero(bits: &mut [u8])
+    ensures { λ _. ⌜ now (bits .exit) ≡ replicate (length (now (bits .entry))) 0 ⌝ }
+{
+    for i in 0..bits.len() {
+        bits[i] = 0;
     }
 }

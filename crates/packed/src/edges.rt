@@ -3,8 +3,9 @@ use crate::bits::get;
 use crate::bits::put;
 ghost use mathlib.Core.Path.{_≡_};
 ghost use Prim.Native.Nat.{_+_, _<_, max};
+ghost use Rattle.arith.specs.Sums.{countTo};
 ghost use Rattle.packed.specs.Pairs.{maxNodes, pairIndex, Room};
-ghost use Rattle.packed.specs.Edges.{edge, withEdge, degree};
+ghost use Rattle.packed.specs.Edges.{edge, withEdge};
 
 // The most nodes that a graph may have.
 pub const MAX_NODES: usize = 256;
@@ -48,7 +49,7 @@ pub fn link(edges: &mut [u8], a: usize, b: usize, on: bool)
 // How many of the n nodes are linked to p.
 pub fn degree(edges: &[u8], n: usize, p: usize) -> usize
     requires { ⌜ (p < n) × Room n (now edges) ⌝ }
-    ensures { λ r. ⌜ r ≡ degree (now (edges .entry)) n p ⌝ }
+    ensures { λ r. ⌜ r ≡ countTo (edge (now (edges .entry)) p) n ⌝ }
 {
     let mut count: usize = 0;
     for q in 0..n {

@@ -1,7 +1,16 @@
--- How long the lent buffers are, where the graph has n nodes. Assumes nothing.
-use Prim.Native.Nat.{ℕ}
+-- How long the lent buffers are, where the graph has n nodes. Marks has the length of the marks. Assumes nothing.
+use Prim.Native.Nat.{ℕ, _+_}
 use Rattle.packed.specs.Bits.{bytesFor}
 use Rattle.packed.specs.Pairs.{pairCount}
 
+-- a bit for each pair, rounded up to bytes
 abbrev pub edgeBytes : ℕ → ℕ
 edgeBytes n = bytesFor (pairCount n)
+
+-- the byte n - 1, then the edges
+abbrev pub snapshotBytes : ℕ → ℕ
+snapshotBytes n = 1 + edgeBytes n
+
+-- the longest
+abbrev pub maxSnapshot : ℕ
+maxSnapshot = 4081

@@ -6,8 +6,32 @@ pub const NODE_COUNT: u64 = 1;
 // A buffer has another length than the number of nodes requires.
 pub const LENGTH: u64 = 2;
 
+// The scratch is too short.
+pub const SCRATCH: u64 = 3;
+
 // A node's number is not below the number of nodes.
 pub const NODE: u64 = 4;
 
+// The two nodes are the same.
+pub const SAME_NODE: u64 = 5;
+
+// The edge to add is there.
+pub const EDGE_PRESENT: u64 = 6;
+
+// The edge to remove is not there.
+pub const EDGE_ABSENT: u64 = 7;
+
+// The number of entries is 0 or above the number of nodes.
+pub const ENTRY_COUNT: u64 = 8;
+
+// A snapshot, or a script, is malformed.
+pub const MALFORMED: u64 = 9;
+
+// A snapshot is of another number of nodes.
+pub const OTHER_COUNT: u64 = 10;
+
 // Before the call a node has more than LIMIT edges.
-pub const CROWDED: u64 = 11;
+pub const CROWDED_BEFORE: u64 = 11;
+
+// After the call a node would have more than LIMIT edges.
+pub const CROWDED_AFTER: u64 = 12;

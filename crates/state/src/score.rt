@@ -1,7 +1,7 @@
 // The call that scores one node.
-use crate::refusal::CROWDED;
+use crate::refusal::CROWDED_BEFORE;
 use crate::refusal::NODE;
-use crate::sizes::size_refusal;
+use crate::sizes::edge_refusal;
 use ego::limits::LIMIT;
 use ego::neighbours::neighbours_of;
 use ego::score::score_of;
@@ -24,7 +24,7 @@ fn refused(refusal: u64) -> Scored
 pub fn score(edges: &[u8], n: usize, p: usize) -> Scored
     ensures { λ r. ⌜ r ≡ scoreCall (now (edges .entry)) n p ⌝ }
 {
-    let size = size_refusal(n, edges.len());
+    let size = edge_refusal(n, edges.len());
     if size != 0 {
         return refused(size);
     }
@@ -34,7 +34,7 @@ pub fn score(edges: &[u8], n: usize, p: usize) -> Scored
     let found = neighbours_of(edges, n, p);
     let count = found.count;
     if LIMIT < count {
-        return refused(CROWDED);
+        return refused(CROWDED_BEFORE);
     }
     let nodes = found.nodes;
     let score = score_of(edges, nodes, count);

@@ -6,7 +6,9 @@ ghost use mathlib.Core.Path.{_≡_};
 ghost use Prim.Native.Nat.{_≤_, _<_};
 ghost use Rattle.packed.specs.Pairs.{maxNodes};
 ghost use Rattle.state.specs.Sizes.{edgeBytes};
-ghost use Rattle.state.specs.Refusal.{refusal, sizes};
+ghost use Rattle.state.specs.Marks.{markBytes};
+ghost use Rattle.state.specs.Refusal.{refusal};
+ghost use Rattle.state.specs.Outcome.{edgeLengths, stateLengths};
 
 // The bytes that hold the edges of n nodes.
 pub fn edge_bytes(n: usize) -> usize
@@ -16,9 +18,17 @@ pub fn edge_bytes(n: usize) -> usize
     (n * (n - 1) / 2 + 7) / 8
 }
 
+// The bytes that hold the marks of n nodes.
+pub fn mark_bytes(n: usize) -> usize
+    requires { ⌜ n ≤ maxNodes ⌝ }
+    ensures { λ r. ⌜ r ≡ markBytes n ⌝ }
+{
+    (n + 7) / 8
+}
+
 // Refusals 1 and 2 of n nodes and so many bytes of edges.
-pub fn size_refusal(n: usize, bytes: usize) -> u64
-    ensures { λ r. ⌜ r ≡ refusal (sizes n bytes) ⌝ }
+pub fn edge_refusal(n: usize, edges: usize) -> u64
+    ensures { λ r. ⌜ r ≡ refusal (edgeLengths n edges) ⌝ }
 {
     if n == 0 {
         return NODE_COUNT;
@@ -26,7 +36,21 @@ pub fn size_refusal(n: usize, bytes: usize) -> u64
     if MAX_NODES < n {
         return NODE_COUNT;
     }
-    if bytes != edge_bytes(n) {
+    if edges != edge_bytes(n) {
+        return LENGTH;
+    }
+    0
+}
+
+// Refusals 1 and 2 of n nodes and so many bytes of edges and of marks.
+pub fn state_refusal(n: usize, edges: usize, marks: usize) -> u64
+    ensures { λ r. ⌜ r ≡ refusal (stateLengths n edges marks) ⌝ }
+{
+    let first = edge_refusal(n, edges);
+    if first != 0 {
+        return first;
+    }
+    if marks != mark_bytes(n) {
         return LENGTH;
     }
     0

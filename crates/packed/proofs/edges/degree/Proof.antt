@@ -1,26 +1,27 @@
 -- `packed::edges::degree` meets its contract. After q turns the count is that of the nodes below q. Assumes nothing.
-use mathlib.Core.Path.{_≡_, refl, sym, ap, _∙_}
+use mathlib.Core.Bool.{false, true}
 use mathlib.Core.Logic.{⊎-elim}
-use Prim.Native.Nat.{_≤_, _-_, _+_}
+use mathlib.Core.Path.{refl, sym, _∙_, _≡_}
+use Prim.Native.Nat.{_-_, _≤_}
 use native.Mathlib.Omega.{arith}
 use borrow.Author.Needs.{needs}
-use mathlib.Core.Bool.{Bool, true, false}
 use denote.Ref.{now}
-use Rattle.arith.specs.Sums.{sumTo}
-use Rattle.packed.specs.Edges.{degree}
+use Rattle.arith.proofs.Sums.{count-more}
+use Rattle.arith.specs.Lists.{count}
+use Rattle.arith.specs.Sums.{countTo, sumTo}
 use Rattle.packed.proofs.PairLaws.{room-within}
-use Rattle.packed.proofs.EdgeLaws.{degree-more}
+use Rattle.packed.specs.Edges.{edge}
 use Rattle.packed.proofs.edges.degree.Statement.{statement}
 use Rattle.packed.proofs.edges.degree.Tie as tie
 
 abbrev Inv-loop : tie.InvT-loop
-Inv-loop edges n p count₀ q₀ count q = (q ≤ n) × (count ≤ q) × (count ≡ degree edges q p)
+Inv-loop edges n p count₀ q₀ count q = (q ≤ n) × (count ≤ q) × (count ≡ countTo (edge edges p) q)
 
 abbrev μ-loop : tie.MeasureT-loop
 μ-loop edges n p count₀ q₀ count q = n - q
 
 loop-holds : tie.Need-loop-holds Inv-loop μ-loop
-unfolding degree sumTo
+unfolding sumTo
 loop-holds c = (search needs, search needs, refl)
 
 has-requires : tie.Need-has-requires Inv-loop μ-loop
@@ -41,7 +42,7 @@ loop-again : tie.Need-loop-again Inv-loop μ-loop
 loop-again c =
     let s = c .before .before .before .before .before in
     let q = c .before .before .before .loop .q in
-    let more = degree-more (now (s .args .edges)) (s .args .p) q in
+    let more = count-more (edge (now (s .args .edges)) (s .args .p)) q in
     let e = sym (c .before .has .ensures) in
     ⊎-elim (λ w. omega (arith, more true (e ∙ w .0 .taken))) (λ w. omega (arith, more false (e ∙ w .0 .left))) (c .if1 .came)
 

@@ -1,0 +1,32 @@
+-- Counts of the numbers below n that pass a test: none, all, and what a full count says. Assumes nothing.
+use mathlib.Core.Bool.{Bool, false, true}
+use mathlib.Core.Logic.{inl, inr}
+use mathlib.Core.Path.{ap, refl, _∙_, _≡_}
+use Prim.Native.Nat.{_<_, suc, zero, ℕ}
+use native.Mathlib.Decide.{ℕ-discrete}
+use native.Mathlib.Omega.{arith}
+use Rattle.arith.proofs.Sums.{countTo-le}
+use Rattle.arith.proofs.Tests.{test}
+use Rattle.arith.specs.Sums.{bit, countTo, sumTo}
+
+pub count-none : (f : ℕ → Bool) (n : ℕ) → ((q : ℕ) → q < n → f q ≡ false) → countTo f n ≡ 0
+unfolding sumTo
+count-none f zero h = refl
+count-none f (suc n) h = rw (count-none f n (λ q l. h q (omega arith)), h n (omega arith))
+
+pub count-all : (f : ℕ → Bool) (n : ℕ) → ((q : ℕ) → q < n → f q ≡ true) → countTo f n ≡ n
+unfolding sumTo
+count-all f zero h = refl
+count-all f (suc n) h = rw (count-all f n (λ q l. h q (omega arith)), h n (omega arith)) (omega arith)
+
+-- where as many pass as there are, each does
+pub count-full : (f : ℕ → Bool) (n q : ℕ) → countTo f n ≡ n → q < n → f q ≡ true
+unfolding sumTo
+count-full f zero q e l = absurd (omega arith)
+count-full f (suc n) q e l = elim (test (f n)) [
+  | inl t ↦ elim (ℕ-discrete q n) [
+    | yes d ↦ ap f d ∙ t
+    | no d ↦ count-full f n q (omega (arith, ap bit t)) (omega arith)
+  ]
+  | inr t ↦ absurd (omega (arith, ap bit t, countTo-le f n))
+]
