@@ -1,0 +1,124 @@
+-- What comes next: the first by rank among the nodes that are not taken. Assumes nothing.
+use mathlib.Core.Bool.{false, true}
+use mathlib.Core.List.{List}
+use mathlib.Core.Logic.{inl, inr}
+use mathlib.Core.Path.{ap, refl, subst, sym, _∙_, _≡_}
+use Prim.Native.Nat.{_+_, _<_, suc, zero, ℕ, _≤_}
+use native.Mathlib.Decide.{ℕ-discrete}
+use native.Mathlib.Nat.{le-refl}
+use native.Mathlib.Numerals.{add-one}
+use native.Mathlib.Omega.{arith}
+use borrow.Author.Tests.{eq-eqb, le-ltb, lt-ltb, ne-eqb}
+use lib.ListN.{getD, length}
+use Rattle.arith.proofs.Tests.{test}
+use Rattle.arith.specs.Rank.{before}
+use Rattle.topk.proofs.Order.{ahead-asym, ahead-behind, Behind, behind-self}
+use Rattle.topk.specs.Entries.{Entry, entry, first}
+use Rattle.topk.specs.Steps.{at, bestBelow, better, Next, nothing, Progress, stored}
+use Rattle.topk.specs.Turns.{looking, next, nextOf}
+
+-- node q with its figure in F
+abbrev pub figureOf : List ℕ → ℕ → Entry
+figureOf F q = entry q (getD F q 0)
+
+abbrev pub Free : List ℕ → ℕ → Type 0
+Free S q = getD S q 0 ≡ 0
+
+abbrev pub Taken : List ℕ → ℕ → Type 0
+Taken S q = getD S q 0 ≡ 0 → ⊥
+
+-- no other node below i that is not taken ranks before it
+abbrev pub IsBest : Progress → ℕ → Next → Type 0
+IsBest s i nothing = (q : ℕ) → q < i → Free (s .taken) q → ⊥
+IsBest s i (at b) = (b < i) × Free (s .taken) b × ((q : ℕ) → q < i → Free (s .taken) q → Behind (stored s q) (stored s b))
+
+module _ (s : Progress) (i : ℕ) where
+  -- what holds of the nodes below i and of i holds of those below i + 1
+  one-more : (P : ℕ → Type 0) → ((q : ℕ) → q < i → P q) → P i → (q : ℕ) → q < suc i → P q
+  one-more P f z q l = elim (ℕ-discrete q i) [ yes e ↦ subst P (sym e) z | no d ↦ f q (omega arith) ]
+
+  better-free : (x : Next) → IsBest s i x → Free (s .taken) i → IsBest s (suc i) (better s x i)
+  unfolding better
+  better-free nothing h z =
+      rw (eq-eqb _ _ z) (omega arith, z, one-more (λ q. Free (s .taken) q → Behind (stored s q) (stored s i)) (λ q l f. absurd (h q l f)) (λ f. behind-self (stored s i)))
+  better-free (at b) h z = elim (test (first (stored s i) (stored s b))) [
+    | inl t ↦ rw (eq-eqb _ _ z, t) (
+      omega arith,
+      z,
+      one-more (λ q. Free (s .taken) q → Behind (stored s q) (stored s i))
+          (λ q l f. ahead-asym (stored s i) (stored s q) (ahead-behind (stored s i) (stored s b) (stored s q) t (h .2 q l f))) (λ f. behind-self (stored s i)),
+    )
+    | inr t ↦ rw (eq-eqb _ _ z, t) (omega (arith, h .0), h .1, one-more (λ q. Free (s .taken) q → Behind (stored s q) (stored s b)) (h .2) (λ f. t))
+  ]
+
+  better-taken : (x : Next) → IsBest s i x → Taken (s .taken) i → IsBest s (suc i) (better s x i)
+  unfolding better
+  better-taken nothing h z = rw (ne-eqb _ _ z) (one-more (λ q. Free (s .taken) q → ⊥) h z)
+  better-taken (at b) h z =
+      rw (ne-eqb _ _ z) (omega (arith, h .0), h .1, one-more (λ q. Free (s .taken) q → Behind (stored s q) (stored s b)) (h .2) (λ f. absurd (z f)))
+
+pub best : (s : Progress) (i : ℕ) → IsBest s i (bestBelow s i)
+unfolding bestBelow
+best s zero = λ q l f. absurd (omega arith)
+best s (suc i) = elim (ℕ-discrete (getD (s .taken) i 0) 0) [
+  | yes z ↦ better-free s i (bestBelow s i) (best s i) z
+  | no z ↦ better-taken s i (bestBelow s i) (best s i) z
+]
+
+-- so of all nodes
+pub next-best : (s : Progress) → IsBest s (length (s .figures)) (next s)
+unfolding next
+next-best s = best s (length (s .figures))
+
+pub next-in : (s : Progress) (p : ℕ) → next s ≡ at p → p < length (s .figures)
+next-in s p e = subst (IsBest s (length (s .figures))) e (next-best s) .0
+
+-- ---- what the code answers: a number below n, or n
+
+pub next-of-node : {n p : ℕ} → p < n → nextOf n p ≡ at p
+unfolding nextOf
+next-of-node h = rw (lt-ltb _ _ h)
+
+pub next-of-none : {n p : ℕ} → n ≤ p → nextOf n p ≡ nothing
+unfolding nextOf
+next-of-none h = rw (le-ltb _ _ h)
+
+module _ (F S : List ℕ) (n best i : ℕ) where
+  pub better-skips : Taken S i → nextOf n best ≡ better (looking F S) (nextOf n best) i
+  unfolding better
+  better-skips h = skips (nextOf n best)
+    where
+      skips : (x : Next) → x ≡ better (looking F S) x i
+      skips nothing = rw (ne-eqb _ _ h)
+      skips (at b) = rw (ne-eqb _ _ h)
+
+  pub better-begins : Free S i → i < n → n ≤ best → nextOf n i ≡ better (looking F S) (nextOf n best) i
+  unfolding better
+  better-begins h l m = rw (next-of-none m, eq-eqb _ _ h) (next-of-node l)
+
+  pub better-moves : Free S i → i < n → best < n → before (getD F i 0) i (getD F best 0) best ≡ true → nextOf n i ≡ better (looking F S) (nextOf n best) i
+  unfolding better first
+  better-moves h l m t = rw (next-of-node m, eq-eqb _ _ h, t) (next-of-node l)
+
+  pub better-stays : Free S i → best < n → before (getD F i 0) i (getD F best 0) best ≡ false → nextOf n best ≡ better (looking F S) (nextOf n best) i
+  unfolding better first
+  better-stays h m t = rw (next-of-node m, eq-eqb _ _ h, t)
+
+-- one turn of the loop, and its start
+pub best-none : (s : Progress) (n : ℕ) → nextOf n n ≡ bestBelow s 0
+unfolding bestBelow
+best-none s n = next-of-none (le-refl n)
+
+pub best-more : (s : Progress) (n i best r : ℕ) → nextOf n best ≡ bestBelow s i → nextOf n r ≡ better s (nextOf n best) i → nextOf n r ≡ bestBelow s (i + 1)
+unfolding bestBelow
+best-more s n i best r e f = rw add-one (f ∙ ap (λ (x : Next). better s x i) e)
+
+-- what is next goes by the figures and the taken nodes alone
+pub best-looking : (s : Progress) (i : ℕ) → bestBelow (looking (s .figures) (s .taken)) i ≡ bestBelow s i
+unfolding bestBelow better
+best-looking s zero = refl
+best-looking s (suc i) = ap (λ (x : Next). better (looking (s .figures) (s .taken)) x i) (best-looking s i) ∙ same (bestBelow s i)
+  where
+    same : (x : Next) → better (looking (s .figures) (s .taken)) x i ≡ better s x i
+    same nothing = refl
+    same (at b) = refl

@@ -1,0 +1,38 @@
+-- `topk::entries::stops_at` meets its contract. Assumes nothing.
+use mathlib.Core.Path.{ap, sym, _∙_, _≡_}
+use Prim.Native.Nat.{_<_, ℕ}
+use native.Mathlib.Omega.{arith}
+use borrow.Author.Needs.{needs}
+use denote.Ref.{now}
+use Rattle.topk.proofs.LayoutLaws.{stops-full, stops-not}
+use Rattle.topk.specs.Entries.{entry, stops}
+use Rattle.topk.specs.Layout.{entriesOf}
+use Rattle.topk.proofs.entries.stops_at.Statement.{statement}
+use Rattle.topk.proofs.entries.stops_at.Tie as tie
+
+sub-entry-at : tie.Need-sub-entry-at
+sub-entry-at c = search needs
+
+entry-at-requires : tie.Need-entry-at-requires
+entry-at-requires c κs = search needs
+
+ranks-before-requires : tie.Need-ranks-before-requires
+ranks-before-requires c κs = search needs
+
+returns : tie.Need-returns
+returns c =
+    let a = c .before .before .before .before .args in
+    let e : a .kept ≡ a .k = c .before .before .if1 .taken in
+    let l : 0 < a .kept = omega arith in
+    c .ranks-before .ensures
+    ∙ rw (c .before .entry-at .ensures .0, c .before .entry-at .ensures .1) (sym (stops-full (a .kept) (now (a .entries)) (entry (a .node) (a .figure)) l))
+    ∙ ap (λ (k : ℕ). stops k (entry (a .node) (a .figure)) (entriesOf (a .kept) (now (a .entries)))) e
+
+returns-2 : tie.Need-returns-2
+returns-2 c =
+    let a = c .before .before .args in
+    sym (stops-not (a .k) (a .kept) (now (a .entries)) (entry (a .node) (a .figure)) (c .if1 .left))
+
+pub stops-at-spec : {M : Type 1} → statement M
+stops-at-spec =
+    tie.close (tie.spec sub-entry-at entry-at-requires ranks-before-requires returns returns-2)

@@ -1,0 +1,45 @@
+-- The kept entries, best first. Assumes nothing.
+use mathlib.Core.Bool.{Bool, cond, _&&_}
+use mathlib.Core.List.{List, [], _∷_}
+use Prim.Native.Nat.{ℕ}
+use lib.Dec.{eqb}
+use lib.ListN.{length, take}
+use Rattle.arith.specs.Rank.{before}
+
+-- a node and its figure
+pub record Entry : Type 0 where
+  pub node : ℕ
+  pub figure : ℕ
+
+abbrev pub entry : ℕ → ℕ → Entry
+entry node figure = record { node = node; figure = figure }
+
+-- x ranks before y: its figure is larger, or equal and its number lower
+unfoldable pub first : Entry → Entry → Bool
+first x y = before (x .figure) (x .node) (y .figure) (y .node)
+
+-- e put before the first entry that it ranks before
+unfoldable pub insert : Entry → List Entry → List Entry
+insert e [] = e ∷ []
+insert e (x ∷ xs) = cond (first e x) (e ∷ x ∷ xs) (x ∷ insert e xs)
+
+-- the best k with e among them
+unfoldable pub keep : ℕ → Entry → List Entry → List Entry
+keep k e xs = take k (insert e xs)
+
+-- the last entry, or d
+abbrev pub lastOr : Entry → List Entry → Entry
+lastOr d [] = d
+lastOr d (x ∷ xs) = lastOr x xs
+
+abbrev pub last : List Entry → Entry
+last xs = lastOr (entry 0 0) xs
+
+-- k are kept, and e ranks after the last of them
+unfoldable pub stops : ℕ → Entry → List Entry → Bool
+stops k e xs = eqb (length xs) k && first (last xs) e
+
+-- entries laid out in a row: entry i has its node at 2i and its figure at 2i + 1
+abbrev pub flat : List Entry → List ℕ
+flat [] = []
+flat (x ∷ xs) = x .node ∷ x .figure ∷ flat xs

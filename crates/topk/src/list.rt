@@ -1,0 +1,91 @@
+// The list call over plain buffers.
+use crate::turns::run;
+use packed::bits::zero;
+use state::crowded::any_over;
+use state::refusal::CROWDED_BEFORE;
+use state::refusal::ENTRY_COUNT;
+use state::refusal::SCRATCH;
+use state::sizes::state_refusal;
+ghost use mathlib.Core.List.{_++_, _∷_, []};
+ghost use mathlib.Core.Path.{_≡_};
+ghost use Prim.Native.Nat.{_*_, _/_, _<_, _≤_};
+ghost use lib.ListN.{length, replicate};
+ghost use Rattle.packed.specs.Edges.{edge};
+ghost use Rattle.state.specs.Marks.{markBytes};
+ghost use Rattle.state.specs.Outcome.{state, stateLengths};
+ghost use Rattle.state.specs.Refusal.{refusal, scratchLength, listLength, crowdedBefore, everyone};
+ghost use Rattle.topk.specs.List.{listing, listCall};
+ghost use Rattle.topk.specs.Turns.{Scorable, Written, listOf};
+
+// The refusal number, and how many nodes were recomputed, which is 0 beside a refusal.
+pub struct Answer {
+    pub refusal: u64,
+    pub recomputed: u64,
+}
+
+// The refusal of a list of k entries, of n nodes and so many bytes of marks and of scratch.
+pub fn list_refusal(edges: &[u8], n: usize, marks: usize, k: usize, scratch: usize) -> u64
+    ensures { λ r. ⌜ r ≡ refusal (stateLengths n (length (now (edges .entry))) marks ++ scratchLength n scratch ∷ listLength n k ∷ crowdedBefore (edge (now (edges .entry))) n everyone ∷ []) ⌝ }
+{
+    let size = state_refusal(n, edges.len(), marks);
+    if size != 0 {
+        return size;
+    }
+    if scratch < n {
+        return SCRATCH;
+    }
+    if k == 0 {
+        return ENTRY_COUNT;
+    }
+    if n < k {
+        return ENTRY_COUNT;
+    }
+    if any_over(edges, n) {
+        return CROWDED_BEFORE;
+    }
+    0
+}
+
+// The list, where nothing turns it back. The scratch has a byte for each node, whatever it holds, and is all 0 afterwards.
+pub fn accepted(
+    edges: &[u8],
+    figures: &mut [u64],
+    marks: &mut [u8],
+    entries: &mut [u64],
+    scratch: &mut [u8],
+    k: usize,
+) -> u64
+    requires { ⌜ Scorable (length (now figures)) (now edges) × (markBytes (length (now figures)) ≤ length (now marks)) × (length (now scratch) ≡ length (now figures)) × (2 * k ≤ length (now entries)) × (0 < k) ⌝ }
+    ensures { λ r. ⌜ Written (listOf (now (edges .entry)) k (now (figures .entry)) (now (marks .entry))) (now (figures .exit)) (now (marks .exit)) (now (entries .entry)) (now (entries .exit)) r × (now (scratch .exit) ≡ replicate (length (now (figures .entry))) 0) ⌝ }
+{
+    zero(scratch);
+    let recomputed = run(edges, figures, marks, scratch, entries, k);
+    zero(scratch);
+    recomputed
+}
+
+// The list: the best k nodes go to the first k entries, k being half the entries' length. The scratch has a byte for each node or more.
+pub fn list(
+    edges: &[u8],
+    figures: &mut [u64],
+    marks: &mut [u8],
+    entries: &mut [u64],
+    scratch: &mut [u8],
+) -> Answer
+    ensures { λ r. ⌜ listing (r .refusal) (r .recomputed) (state (now (edges .entry)) (now (figures .exit)) (now (marks .exit))) (now (entries .exit)) (now (scratch .exit)) ≡ listCall (state (now (edges .entry)) (now (figures .entry)) (now (marks .entry))) (now (entries .entry)) (now (scratch .entry)) ⌝ }
+{
+    let n = figures.len();
+    let k = entries.len() / 2;
+    let refusal = list_refusal(edges, n, marks.len(), k, scratch.len());
+    if refusal != 0 {
+        return Answer {
+            refusal,
+            recomputed: 0,
+        };
+    }
+    let recomputed = accepted(edges, figures, marks, entries, &mut scratch[..n], k);
+    Answer {
+        refusal: 0,
+        recomputed,
+    }
+}

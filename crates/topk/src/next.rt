@@ -1,0 +1,38 @@
+// The node that is taken next.
+use crate::rank::ranks_before;
+ghost use mathlib.Core.Path.{_≡_};
+ghost use Prim.Native.Nat.{_<_, _≤_};
+ghost use lib.ListN.{length};
+ghost use Rattle.topk.specs.Steps.{better, bestBelow};
+ghost use Rattle.topk.specs.Turns.{nextOf, looking};
+
+// Of the best so far, which is the number of nodes where there is none, and node i, the one that ranks first. A node that is taken does not count.
+pub fn better(figures: &[u64], taken: &[u8], best: usize, i: usize) -> usize
+    requires { ⌜ (i < length (now figures)) × (i < length (now taken)) × (best ≤ length (now figures)) ⌝ }
+    ensures { λ r. ⌜ (r ≤ length (now (figures .entry))) × (nextOf (length (now (figures .entry))) r ≡ better (looking (now (figures .entry)) (now (taken .entry))) (nextOf (length (now (figures .entry))) best) i) ⌝ }
+{
+    if taken[i] != 0 {
+        return best;
+    }
+    if figures.len() <= best {
+        return i;
+    }
+    let f = figures[i];
+    let g = figures[best];
+    if ranks_before(f, i as u64, g, best as u64) {
+        return i;
+    }
+    best
+}
+
+// The first by rank among the nodes that are not taken, and the number of nodes where all are.
+pub fn next_node(figures: &[u64], taken: &[u8]) -> usize
+    requires { ⌜ length (now taken) ≡ length (now figures) ⌝ }
+    ensures { λ r. ⌜ (r ≤ length (now (figures .entry))) × (nextOf (length (now (figures .entry))) r ≡ bestBelow (looking (now (figures .entry)) (now (taken .entry))) (length (now (figures .entry)))) ⌝ }
+{
+    let mut best = figures.len();
+    for i in 0..figures.len() {
+        best = better(figures, taken, best, i);
+    }
+    best
+}
