@@ -1,0 +1,2 @@
+-- 01's cases that are marked P.
+pub mod Cases

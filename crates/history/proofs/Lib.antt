@@ -1,0 +1,3 @@
+pub mod ListStep
+pub mod Steps
+pub mod Theorem

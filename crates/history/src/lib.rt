@@ -1,0 +1,1 @@
+// The plain model of a history, and demand 3.

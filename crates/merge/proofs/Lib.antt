@@ -1,0 +1,3 @@
+pub mod MergeLaws
+pub mod PairOrder
+pub mod StepLaws

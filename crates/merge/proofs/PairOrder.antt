@@ -1,0 +1,99 @@
+-- A change made at each pair in bit order is made once at each pair. Assumes nothing.
+use mathlib.Core.Bool.{cond, false}
+use mathlib.Core.Logic.{_≢_}
+use mathlib.Core.Path.{ap, refl, sym, _∙_, _≡_}
+use Prim.Native.Nat.{_+_, _<_, suc, zero, zero-le, ℕ, _≤_}
+use native.Mathlib.Decide.{decLt, ℕ-discrete}
+use native.Mathlib.Nat.{add-zero, le-refl}
+use native.Mathlib.Omega.{arith}
+use borrow.Author.Tests.{le-ltb, lt-ltb}
+use lib.Dec.{ltb}
+use Rattle.ego.proofs.Agreement.{Agree}
+use Rattle.ego.proofs.WithPair.{apart-numbers, pair-elsewhere, pair-is}
+use Rattle.ego.specs.Change.{withPair}
+use Rattle.ego.specs.Graph.{Graph, Simple}
+use Rattle.merge.specs.Reconcile.{overPairs, overRow}
+use Rattle.packed.proofs.PairLaws.{pair-comm, pair-inj, pair-less, pair-lt, pairs-suc}
+use Rattle.packed.specs.Pairs.{pairCount, pairIndex}
+use Rattle.state.specs.State.{State}
+
+-- the pairs numbered below i as in `new`, the others as in `old`
+unfoldable halfway : Graph → Graph → ℕ → Graph
+halfway new old i x y = cond (ltb (pairIndex x y) i) (new x y) (old x y)
+
+module _ (new old : Graph) (i x y : ℕ) where
+  is-new : pairIndex x y < i → halfway new old i x y ≡ new x y
+  unfolding halfway
+  is-new h = rw (lt-ltb (pairIndex x y) i h)
+
+  is-old : i ≤ pairIndex x y → halfway new old i x y ≡ old x y
+  unfolding halfway
+  is-old h = rw (le-ltb (pairIndex x y) i h)
+
+pair-number : (a b : ℕ) → a < b → pairIndex a b ≡ pairCount b + a
+unfolding pairCount
+pair-number a b h = pair-less a b h
+
+module _ (new old : Graph) (fresh : Simple new) (past : Simple old) where
+  no-loop : (i x y : ℕ) → x ≡ y → halfway new old i x y ≡ false
+  no-loop i x y e = elim (decLt (pairIndex x y) i) [
+    | yes h ↦ is-new new old i x y h ∙ rw e (fresh .loopless y)
+    | no h ↦ is-old new old i x y (omega arith) ∙ rw e (past .loopless y)
+  ]
+
+  -- one pair more
+  halfway-more : (a b i x y : ℕ) → a < b → pairIndex a b ≡ i → halfway new old (suc i) x y ≡ withPair (halfway new old i) a b (new a b) x y
+  halfway-more a b i x y h e = elim (ℕ-discrete x y) [
+    | yes q ↦ no-loop (suc i) x y q ∙ sym (pair-elsewhere (halfway new old i) a b (new a b) x y (λ p r. omega arith) (λ p r. omega arith) ∙ no-loop i x y q)
+    | no d ↦ pair-is (halfway new old i) (halfway new old (suc i)) a b (new a b) x y
+        (λ p r. rw (p, r) (is-new new old (suc i) a b (omega arith)))
+        (λ p r. rw (p, r) (is-new new old (suc i) b a (omega (arith, pair-comm a b)) ∙ fresh .symmetric b a))
+        (λ p r. kept d (λ q. let t = pair-inj x y a b d (λ u. omega arith) (q ∙ sym e) in apart-numbers a b x y p r (t .0) (t .1)))
+  ]
+    where
+      kept : x ≢ y → pairIndex x y ≢ i → halfway new old (suc i) x y ≡ halfway new old i x y
+      kept d q = elim (decLt (pairIndex x y) i) [
+        | yes l ↦ is-new new old (suc i) x y (omega arith) ∙ sym (is-new new old i x y l)
+        | no l ↦ is-old new old (suc i) x y (omega arith) ∙ sym (is-old new old i x y (omega arith))
+      ]
+
+  module _ (n : ℕ) (P : Graph → State → Type 0) (agree : (g g′ : Graph) (s : State) → Agree n g g′ → P g s → P g′ s) (change : ℕ → ℕ → State → State)
+      (does : (a b : ℕ) → a < b → b < n → (g : Graph) (s : State) → g a b ≡ old a b → P g s → P (withPair g a b (new a b)) (change a b s)) where
+    row : (a b : ℕ) (s : State) → a ≤ b → b < n → P (halfway new old (pairCount b)) s → P (halfway new old (pairCount b + a)) (overRow change b a s)
+    unfolding overRow
+    row zero b s h l p = rw add-zero p
+    row (suc a) b s h l p =
+        let i : ℕ = pairCount b + a in
+        let e = pair-number a b h in
+        agree _ _ _ (λ x y hx hy. sym (halfway-more a b i x y h e) ∙ ap (λ j. halfway new old j x y) (omega arith))
+        (does a b h l (halfway new old i) _ (is-old new old i a b (omega arith)) (row a b s (omega arith) l p))
+
+    rows : (b : ℕ) (s : State) → b ≤ n → P old s → P (halfway new old (pairCount b)) (overPairs change b s)
+    unfolding overPairs pairCount
+    rows zero s h p = agree _ _ _ (λ x y hx hy. sym (is-old new old 0 x y zero-le)) p
+    rows (suc b) s h p = rw (pairs-suc b) (row b b (overPairs change b s) (le-refl b) h (rows b s (omega arith) p))
+
+    pub over-pairs : (s : State) → P old s → P new (overPairs change n s)
+    over-pairs s p = agree _ _ _ (λ x y hx hy. elim (ℕ-discrete x y) [
+      | yes e ↦ no-loop (pairCount n) x y e ∙ sym (rw e (fresh .loopless y))
+      | no d ↦ is-new new old (pairCount n) x y (pair-lt x y n d hx hy)
+    ]) (rows n s (le-refl n) p)
+
+    -- another change that does the same wherever the pair still is as in `old`
+    module _ (other : ℕ → ℕ → State → State)
+        (same : (a b : ℕ) → a < b → b < n → (g : Graph) (s : State) → g a b ≡ old a b → P g s → other a b s ≡ change a b s) where
+      row-same : (a b : ℕ) (s : State) → a ≤ b → b < n → P (halfway new old (pairCount b)) s → overRow other b a s ≡ overRow change b a s
+      unfolding overRow
+      row-same zero b s h l p = refl
+      row-same (suc a) b s h l p =
+          let i : ℕ = pairCount b + a in
+          let e = pair-number a b h in
+          ap (other a b) (row-same a b s (omega arith) l p) ∙ same a b h l (halfway new old i) _ (is-old new old i a b (omega arith)) (row a b s (omega arith) l p)
+
+      rows-same : (b : ℕ) (s : State) → b ≤ n → P old s → overPairs other b s ≡ overPairs change b s
+      unfolding overPairs
+      rows-same zero s h p = refl
+      rows-same (suc b) s h p = ap (overRow other b b) (rows-same b s (omega arith) p) ∙ row-same b b (overPairs change b s) (le-refl b) h (rows b s (omega arith) p)
+
+      pub over-same : (s : State) → P old s → overPairs other n s ≡ overPairs change n s
+      over-same s p = rows-same n s (le-refl n) p

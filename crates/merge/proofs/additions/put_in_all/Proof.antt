@@ -1,0 +1,82 @@
+-- `merge::additions::put_in_all` meets its contract. After b turns the pairs of the nodes below b are done. Assumes nothing.
+use mathlib.Core.Path.{ap, refl, _∙_, _≡_}
+use Prim.Native.Nat.{_-_, _≤_}
+use native.Mathlib.Nat.{le-antisymm}
+use native.Mathlib.Omega.{arith}
+use borrow.Author.Needs.{needs}
+use denote.Ref.{now}
+use lib.ListN.{length}
+use Rattle.merge.proofs.StepLaws.{aligned-kept, pairs-none, pairs-step}
+use Rattle.merge.specs.Reconcile.{overPairs}
+use Rattle.merge.specs.Steps.{putIn}
+use Rattle.packed.specs.Edges.{edge}
+use Rattle.state.specs.Outcome.{state}
+use Rattle.merge.proofs.additions.put_in_all.Statement.{statement}
+use Rattle.merge.proofs.additions.put_in_all.Tie as tie
+
+abbrev Inv-loop : tie.InvT-loop
+Inv-loop edges₀ figures₀ marks₀ theirs base n b₀ edges figures marks b = (b ≤ n) × (n ≡ length figures₀) × (length edges ≡ length edges₀) × (length figures ≡ length figures₀) × (length marks ≡ length marks₀) × (state edges figures marks ≡ overPairs (putIn (edge theirs) (edge base)) b (state edges₀ figures₀ marks₀))
+
+abbrev μ-loop : tie.MeasureT-loop
+μ-loop edges₀ figures₀ marks₀ theirs base n b₀ edges figures marks b = n - b
+
+loop-holds : tie.Need-loop-holds Inv-loop μ-loop
+loop-holds c = (search needs, search needs, refl, refl, refl, pairs-none _ _)
+
+put-in-row-requires : tie.Need-put-in-row-requires Inv-loop μ-loop
+put-in-row-requires c κs =
+    let at = c .before .before .before .before .loop in
+    let s = c .before .before .before .before .before .before .before .before .before .before in (
+      omega (arith, at .inv .1, at .inv .3),
+      aligned-kept (s .pre) (at .inv .2) (at .inv .3) (at .inv .4),
+    )
+
+add-b : tie.Need-add-b Inv-loop μ-loop
+add-b c = omega arith
+
+loop-less : tie.Need-loop-less Inv-loop μ-loop
+loop-less c = omega arith
+
+loop-again : tie.Need-loop-again Inv-loop μ-loop
+loop-again c =
+    let at = c .before .before .before .before .before .before .before .before .before .before .before .loop in
+    let s = c .before .before .before .before .before .before .before .before .before .before .before .before .before .before .before .before .before in
+    let kept = c .before .before .before .before .before .before .put-in-row .kept in (
+      omega arith,
+      at .inv .1,
+      kept .0 ∙ at .inv .2,
+      kept .1 .0 ∙ at .inv .3,
+      kept .1 .1 .0 ∙ at .inv .4,
+      pairs-step (putIn (edge (now (s .args .theirs))) (edge (now (s .args .base)))) _ (at .b) (at .inv .5) (c .before .before .before .before .before .before .put-in-row .ensures),
+    )
+
+same-length : tie.Need-same-length Inv-loop μ-loop
+same-length c = c .before .loop .inv .2
+
+same-length-2 : tie.Need-same-length-2 Inv-loop μ-loop
+same-length-2 c = c .before .loop .inv .3
+
+same-length-3 : tie.Need-same-length-3 Inv-loop μ-loop
+same-length-3 c = c .before .loop .inv .4
+
+returns : tie.Need-returns Inv-loop μ-loop
+returns c =
+    let s = c .before .before .before .before .before .before .before in
+    let at = c .before .loop in
+    at .inv .5 ∙ ap (λ m. overPairs (putIn (edge (now (s .args .theirs))) (edge (now (s .args .base)))) m (state (now (s .args .edges)) (now (s .args .figures)) (now (s .args .marks)))) (le-antisymm (at .inv .0) (c .loop-test .left) ∙ at .inv .1)
+
+pub put-in-all-spec : {M : Type 1} → statement M
+put-in-all-spec =
+    tie.close
+    (tie.spec
+    Inv-loop
+    μ-loop
+    loop-holds
+    put-in-row-requires
+    add-b
+    loop-less
+    loop-again
+    same-length
+    same-length-2
+    same-length-3
+    returns)

@@ -1,0 +1,3 @@
+-- The call that reconciles mine with theirs.
+pub mod Reconcile
+pub mod Steps
