@@ -1,0 +1,21 @@
+//! Every call as its C function gives it: numbers by value, memory lent as slices, one number back.
+
+pub trait Calls {
+    /// What is called, for messages.
+    fn name(&self) -> &'static str;
+    fn clear(&self, n: u64, edges: &mut [u8], figures: &mut [u8], marks: &mut [u8]) -> u64;
+    fn add(&self, n: u64, edges: &mut [u8], figures: &mut [u8], marks: &mut [u8], a: u64, b: u64) -> u64;
+    fn remove(&self, n: u64, edges: &mut [u8], figures: &mut [u8], marks: &mut [u8], a: u64, b: u64) -> u64;
+    fn score(&self, n: u64, edges: &[u8], node: u64) -> u64;
+    fn load(&self, edges: &mut [u8], figures: &mut [u64], marks: &mut [u8], snapshot: &[u8]) -> u64;
+    fn write(&self, edges: &mut [u8], figures: &mut [u64], marks: &mut [u8], snapshot: &mut [u8]) -> u64;
+    fn reconcile(&self, edges: &mut [u8], figures: &mut [u64], marks: &mut [u8], theirs: &[u8], base: &[u8]) -> u64;
+    fn list(
+        &self,
+        edges: &mut [u8],
+        figures: &mut [u64],
+        marks: &mut [u8],
+        entries: &mut [u64],
+        scratch: &mut [u8],
+    ) -> u64;
+}

@@ -1,0 +1,317 @@
+//! Random boards, calls and damage.
+
+use crate::memory::{Call, Kind, Memory};
+use crate::plain::graph::Graph;
+use crate::plain::limits::{bound, MAX_DEGREE};
+use crate::plain::packing::{bit, edge_bytes, mark_bytes, pair_count, pair_index, put_bit};
+use crate::rng::Rng;
+
+/// How full a board is.
+#[derive(Clone, Copy)]
+enum Fill {
+    None,
+    /// About this many edges a node.
+    Edges(usize),
+    /// As many as the limit lets through.
+    Full,
+    /// A few nodes above the limit, where there are enough nodes.
+    Crowded,
+    /// Any bytes.
+    Noise,
+}
+
+/// A node count from 1 to 256: often small, sometimes the largest.
+pub fn node_count(rng: &mut Rng) -> usize {
+    match rng.below(20) {
+        0..=9 => rng.between(1, 12),
+        10..=13 => rng.between(13, 40),
+        14..=16 => rng.between(41, 100),
+        17..=18 => rng.between(101, 255),
+        _ => 256,
+    }
+}
+
+fn fill(rng: &mut Rng) -> Fill {
+    match rng.below(20) {
+        0 => Fill::None,
+        1..=4 => Fill::Edges(rng.between(1, 4)),
+        5..=9 => Fill::Edges(rng.between(5, 16)),
+        10..=12 => Fill::Edges(rng.between(17, 31)),
+        13..=15 => Fill::Full,
+        16..=17 => Fill::Crowded,
+        _ => Fill::Noise,
+    }
+}
+
+/// Edge bytes whose spare bits are 0, but for noise.
+fn edges(rng: &mut Rng, n: usize, fill: Fill) -> Vec<u8> {
+    let mut bytes = vec![0; edge_bytes(n)];
+    let wanted = match fill {
+        Fill::None => return bytes,
+        Fill::Noise => return rng.bytes(edge_bytes(n)),
+        Fill::Edges(degree) => n * degree / 2,
+        Fill::Full | Fill::Crowded => usize::MAX,
+    };
+    let mut pairs: Vec<(usize, usize)> = (0..n).flat_map(|b| (0..b).map(move |a| (a, b))).collect();
+    rng.shuffle(&mut pairs);
+    let mut degrees = vec![0; n];
+    let mut placed = 0;
+    for (a, b) in pairs {
+        if placed < wanted && degrees[a] < MAX_DEGREE && degrees[b] < MAX_DEGREE {
+            put_bit(&mut bytes, pair_index(a, b), true);
+            degrees[a] += 1;
+            degrees[b] += 1;
+            placed += 1;
+        }
+    }
+    if matches!(fill, Fill::Crowded) && n > 1 {
+        let hub = rng.below(n);
+        for q in (0..n).filter(|&q| q != hub) {
+            put_bit(&mut bytes, pair_index(hub, q), true);
+        }
+    }
+    bytes
+}
+
+fn random_edges(rng: &mut Rng, n: usize) -> Vec<u8> {
+    let fill = fill(rng);
+    edges(rng, n, fill)
+}
+
+/// Some of the spare bits of a buffer become 1.
+fn set_spare(rng: &mut Rng, bytes: &mut [u8], used: usize) {
+    for i in used..8 * bytes.len() {
+        if rng.chance(50) {
+            put_bit(bytes, i, true);
+        }
+    }
+}
+
+fn put_figure(memory: &mut Memory, p: usize, figure: u64) {
+    memory.figures[8 * p..8 * p + 8].copy_from_slice(&figure.to_le_bytes());
+}
+
+/// A state of the right lengths: honest ceilings or false figures, any marks, any spare bits.
+pub fn state(rng: &mut Rng, n: usize) -> Memory {
+    let mut memory = Memory {
+        edges: random_edges(rng, n),
+        figures: vec![0; 8 * n],
+        marks: rng.bytes(mark_bytes(n)),
+        ..Memory::default()
+    };
+    let graph = Graph::read(n, &memory.edges);
+    let style = rng.below(4);
+    for p in 0..n {
+        let figure = match style {
+            0 => bound(graph.degree(p)),
+            1 => rng.next(),
+            2 => bound(rng.below(33)),
+            _ => rng.below(3) as u64,
+        };
+        put_figure(&mut memory, p, figure);
+    }
+    if rng.chance(50) {
+        set_spare(rng, &mut memory.edges, pair_count(n));
+    }
+    memory
+}
+
+/// The state itself is altered behind the calls' back: edges, figures or marks.
+pub fn corrupt(rng: &mut Rng, n: usize, memory: &mut Memory) {
+    match rng.below(5) {
+        0 if n > 1 => {
+            for _ in 0..rng.between(1, 8) {
+                let index = rng.below(pair_count(n));
+                let value = !bit(&memory.edges, index);
+                put_bit(&mut memory.edges, index, value);
+            }
+        }
+        1 => memory.marks = rng.bytes(mark_bytes(n)),
+        2 => set_spare(rng, &mut memory.edges, pair_count(n)),
+        _ => {
+            let figure = if rng.chance(50) { rng.next() } else { bound(rng.below(33)) };
+            let p = rng.below(n);
+            put_figure(memory, p, figure);
+        }
+    }
+}
+
+/// A pair of nodes, joined or not as wished where one is soon found.
+fn pair(rng: &mut Rng, n: usize, edges: &[u8], joined: bool) -> (usize, usize) {
+    let mut found = (rng.below(n), rng.below(n));
+    for _ in 0..200 {
+        let (a, b) = found;
+        if a != b && bit(edges, pair_index(a, b)) == joined {
+            break;
+        }
+        found = (rng.below(n), rng.below(n));
+    }
+    found
+}
+
+/// `edges` with a few bits the other way.
+fn varied(rng: &mut Rng, n: usize, edges: &[u8], most: usize) -> Vec<u8> {
+    let mut bytes = edges.to_vec();
+    if n > 1 {
+        for _ in 0..rng.between(0, most) {
+            let index = rng.below(pair_count(n));
+            // more removals than additions, so that full boards stay within the limit
+            let value = !bit(&bytes, index) && rng.chance(60);
+            put_bit(&mut bytes, index, value);
+        }
+    }
+    bytes
+}
+
+/// The next call of a history, with what it brings put into the memory.
+pub fn next_call(rng: &mut Rng, n: usize, memory: &mut Memory) -> Call {
+    let kind = match rng.below(100) {
+        0..=1 => Kind::Clear,
+        2..=6 => Kind::Load,
+        7..=11 => Kind::Write,
+        12..=24 => Kind::Score,
+        25..=54 => Kind::Add,
+        55..=74 => Kind::Remove,
+        75..=82 => Kind::Reconcile,
+        _ => Kind::List,
+    };
+    call_of_kind(rng, n, memory, kind)
+}
+
+/// A call of this kind that is mostly accepted.
+pub fn call_of_kind(rng: &mut Rng, n: usize, memory: &mut Memory, kind: Kind) -> Call {
+    let mut call = Call { kind, n: n as u64, a: 0, b: 0 };
+    match kind {
+        Kind::Clear => {}
+        Kind::Score => call.a = rng.below(n) as u64,
+        Kind::Add | Kind::Remove => {
+            let joined = (kind == Kind::Remove) == rng.chance(94);
+            let (a, b) = pair(rng, n, &memory.edges, joined);
+            call.a = a as u64;
+            call.b = b as u64;
+        }
+        Kind::Load => {
+            memory.snapshot = vec![(n - 1) as u8];
+            memory.snapshot.extend(random_edges(rng, n));
+            if rng.chance(10) {
+                let used = 8 + pair_count(n);
+                set_spare(rng, &mut memory.snapshot, used);
+            }
+        }
+        Kind::Write => memory.snapshot = rng.bytes(1 + edge_bytes(n)),
+        Kind::Reconcile => {
+            let most = if rng.chance(10) { 60 } else { 8 };
+            memory.base = varied(rng, n, &memory.edges, most);
+            let base = memory.base.clone();
+            memory.theirs = if rng.chance(8) { random_edges(rng, n) } else { varied(rng, n, &base, most) };
+            if rng.chance(30) {
+                set_spare(rng, &mut memory.theirs, pair_count(n));
+            }
+        }
+        Kind::List => {
+            let k = match rng.below(10) {
+                0 => n,
+                1..=3 => rng.between(1, n),
+                _ => rng.between(1, n.min(6)),
+            };
+            let odd = usize::from(rng.chance(5));
+            memory.entries = (0..2 * k + odd).map(|_| rng.next()).collect();
+            let more = rng.below(4);
+            memory.scratch = rng.bytes(n + more);
+        }
+    }
+    call
+}
+
+/// Another length than the right one.
+fn wrong_length(rng: &mut Rng, right: usize) -> usize {
+    match rng.below(6) {
+        0 => 0,
+        1 => right + 1,
+        2 => right.saturating_sub(1),
+        3 => 2 * right + 1,
+        4 => right + rng.below(300),
+        _ => rng.below(right + 2),
+    }
+}
+
+fn resize(rng: &mut Rng, bytes: &mut Vec<u8>) {
+    let length = wrong_length(rng, bytes.len());
+    let fresh = rng.bytes(length);
+    let kept = bytes.len().min(length);
+    bytes.truncate(length);
+    bytes.extend(&fresh[kept..]);
+}
+
+/// What can go wrong with what a call is given.
+#[derive(Clone, Copy)]
+enum Damage {
+    Edges,
+    Marks,
+    Figures,
+    Scratch,
+    Snapshot,
+    SnapshotOfOther,
+    SnapshotFirst,
+    Theirs,
+    Base,
+    Entries,
+    N,
+    A,
+    B,
+    Same,
+    OtherBoard,
+}
+
+/// One thing that the call is given goes wrong.
+pub fn damage(rng: &mut Rng, n: usize, memory: &mut Memory, call: &mut Call) {
+    use Damage::*;
+    const NUMBERS: [u64; 8] = [0, 1, 255, 256, 257, 1 << 32, u64::MAX - 1, u64::MAX];
+    let far = [n as u64, n as u64 + 1, 256, 1 << 32, u64::MAX];
+    let own: &[Damage] = match call.kind {
+        Kind::Clear => &[N],
+        Kind::Score => &[N, A],
+        Kind::Add | Kind::Remove => &[N, A, B, Same],
+        Kind::Load => &[Snapshot, SnapshotOfOther, SnapshotFirst],
+        Kind::Write => &[Snapshot],
+        Kind::Reconcile => &[Theirs, Base],
+        Kind::List => &[Scratch, Entries],
+    };
+    let common = [Edges, Marks, Figures, OtherBoard];
+    let chosen = if rng.chance(60) { rng.pick(own) } else { rng.pick(&common) };
+    match chosen {
+        Edges => resize(rng, &mut memory.edges),
+        Marks => resize(rng, &mut memory.marks),
+        Figures => resize(rng, &mut memory.figures),
+        Scratch => resize(rng, &mut memory.scratch),
+        Snapshot => resize(rng, &mut memory.snapshot),
+        Theirs => resize(rng, &mut memory.theirs),
+        Base => resize(rng, &mut memory.base),
+        Entries => {
+            let length = wrong_length(rng, memory.entries.len());
+            memory.entries.resize(length, 7);
+        }
+        N => call.n = rng.pick(&NUMBERS),
+        A => call.a = rng.pick(&far),
+        B => call.b = rng.pick(&far),
+        Same => call.b = call.a,
+        SnapshotFirst => {
+            if let Some(first) = memory.snapshot.first_mut() {
+                *first = rng.next() as u8;
+            }
+        }
+        SnapshotOfOther => {
+            let other = node_count(rng);
+            memory.snapshot = vec![(other - 1) as u8];
+            memory.snapshot.extend(random_edges(rng, other));
+        }
+        OtherBoard => {
+            // another n altogether, 0 and 257 among them, with every length as it requires
+            let other = rng.pick(&[0, 1, 2, n + 1, n.saturating_sub(1), 257, 300]);
+            call.n = other as u64;
+            memory.figures = rng.bytes(8 * other);
+            memory.marks = rng.bytes(mark_bytes(other));
+            memory.edges = rng.bytes(edge_bytes(other));
+        }
+    }
+}

@@ -1,0 +1,129 @@
+//! The command line.
+
+use compare::calls::Calls;
+use compare::plain::replay::replay;
+use compare::{bench, ffi, named, run, scripts, text, tuned};
+use std::env;
+use std::fs::File;
+use std::io::{self, Read, Write};
+use std::process::ExitCode;
+use std::time::{Instant, SystemTime, UNIX_EPOCH};
+
+const USAGE: &str = "usage:
+  compare compare [SEED [CALLS]]        the library against the plain version; SEED may be `random`
+  compare compare-tuned [SEED [CALLS]]  the tuned version against the plain version
+  compare compare-replay PROGRAM [SEED [SCRIPTS]]
+                                        a script program against the plain one, on random scripts
+  compare bench                         a table of times, the library beside the tuned version
+  compare pack [FILE]                   a text to a script; reads standard input without FILE
+  compare unpack [FILE]                 a script to a text
+  compare replay-plain [FILE]           what the script program prints for a script";
+
+const DEFAULT_SEED: u64 = 1;
+const DEFAULT_CALLS: usize = 60_000;
+const DEFAULT_SCRIPTS: usize = 500;
+
+fn main() -> ExitCode {
+    let words: Vec<String> = env::args().skip(1).collect();
+    let words: Vec<&str> = words.iter().map(String::as_str).collect();
+    let done = match words.split_first() {
+        Some((&"compare", rest)) => library().and_then(|version| comparison(version, rest)),
+        Some((&"compare-tuned", rest)) => comparison(&tuned::Tuned, rest),
+        Some((&"compare-replay", [program, rest @ ..])) => scripts_comparison(program, rest),
+        Some((&"bench", [])) => {
+            bench::run(ffi::linked());
+            Ok(())
+        }
+        Some((&"pack", rest)) => pack(rest),
+        Some((&"unpack", rest)) => unpack(rest),
+        Some((&"replay-plain", rest)) => input(rest).and_then(|script| print(replay(&script).as_bytes())),
+        _ => Err(USAGE.to_string()),
+    };
+    match done {
+        Ok(()) => ExitCode::SUCCESS,
+        Err(message) => {
+            eprintln!("{message}");
+            ExitCode::FAILURE
+        }
+    }
+}
+
+fn library() -> Result<&'static dyn Calls, String> {
+    ffi::linked().ok_or_else(|| {
+        "the library is not linked: run `rt staticlib capi` and `rt staticlib port`, and build again".to_string()
+    })
+}
+
+/// The seed and the number of things to compare that the words give.
+fn seed_and_count(words: &[&str], default_count: usize) -> Result<(u64, usize), String> {
+    let number = |word: &str| word.parse::<u64>().map_err(|_| format!("expected a number, found `{word}`\n{USAGE}"));
+    let seed = match words.first() {
+        Some(&"random") => SystemTime::now().duration_since(UNIX_EPOCH).map_or(0, |past| past.as_nanos() as u64),
+        Some(word) => number(word)?,
+        None => DEFAULT_SEED,
+    };
+    let count = words.get(1).map_or(Ok(default_count), |word| number(word).map(|count| count as usize))?;
+    Ok((seed, count))
+}
+
+/// The named cases, then random histories.
+fn comparison(version: &dyn Calls, words: &[&str]) -> Result<(), String> {
+    let (seed, calls) = seed_and_count(words, DEFAULT_CALLS)?;
+    println!("seed {seed}, {calls} calls, {} against plain", version.name());
+    named::run(version)?;
+    let start = Instant::now();
+    let tally = run::run(version, seed, calls)?;
+    println!("{}", tally.table());
+    println!(
+        "{} calls agree in every answer and every lent byte: {} histories and {} single calls, {:.1} s",
+        tally.calls,
+        tally.histories,
+        tally.singles,
+        start.elapsed().as_secs_f64()
+    );
+    Ok(())
+}
+
+/// Random scripts, whole and damaged.
+fn scripts_comparison(program: &str, words: &[&str]) -> Result<(), String> {
+    let (seed, count) = seed_and_count(words, DEFAULT_SCRIPTS)?;
+    println!("seed {seed}, {count} scripts, {program} against plain");
+    let ended = scripts::run(program, seed, count)?;
+    println!("{count} scripts print the same: {ended} to their end, {} malformed", count - ended);
+    Ok(())
+}
+
+/// The bytes of the named file, or of standard input.
+fn input(words: &[&str]) -> Result<Vec<u8>, String> {
+    let mut bytes = Vec::new();
+    match words {
+        [] => io::stdin().read_to_end(&mut bytes).map_err(|error| format!("standard input: {error}"))?,
+        [path] => File::open(path)
+            .and_then(|mut file| file.read_to_end(&mut bytes))
+            .map_err(|error| format!("{path}: {error}"))?,
+        _ => return Err(USAGE.to_string()),
+    };
+    Ok(bytes)
+}
+
+fn print(bytes: &[u8]) -> Result<(), String> {
+    io::stdout().write_all(bytes).map_err(|error| format!("standard output: {error}"))
+}
+
+/// A message with the name of the file that it is about.
+fn named_input(words: &[&str], message: String) -> String {
+    format!("{}: {message}", words.first().unwrap_or(&"standard input"))
+}
+
+fn pack(words: &[&str]) -> Result<(), String> {
+    let bytes = input(words)?;
+    let text = String::from_utf8(bytes).map_err(|_| named_input(words, "expected text in UTF-8".to_string()))?;
+    let script = text::pack(&text).map_err(|message| named_input(words, message))?;
+    print(&script)
+}
+
+fn unpack(words: &[&str]) -> Result<(), String> {
+    let (text, done) = text::unpack(&input(words)?);
+    print(text.as_bytes())?;
+    done.map_err(|message| named_input(words, message))
+}

@@ -1,0 +1,157 @@
+//! One call with everything that is lent to it.
+
+use crate::calls::Calls;
+use std::fmt;
+
+#[derive(Clone, Copy, Debug, PartialEq, Eq)]
+pub enum Kind {
+    Clear,
+    Load,
+    Write,
+    Score,
+    Add,
+    Remove,
+    Reconcile,
+    List,
+}
+
+pub const KINDS: [Kind; 8] =
+    [Kind::Clear, Kind::Load, Kind::Write, Kind::Score, Kind::Add, Kind::Remove, Kind::Reconcile, Kind::List];
+
+/// A call and the numbers that it is given; those that its kind does not take are ignored.
+#[derive(Clone, Copy, Debug)]
+pub struct Call {
+    pub kind: Kind,
+    pub n: u64,
+    pub a: u64,
+    pub b: u64,
+}
+
+impl fmt::Display for Call {
+    fn fmt(&self, f: &mut fmt::Formatter) -> fmt::Result {
+        let Call { kind, n, a, b } = self;
+        match kind {
+            Kind::Clear => write!(f, "clear, n = {n}"),
+            Kind::Score => write!(f, "score, n = {n}, node {a}"),
+            Kind::Add => write!(f, "add, n = {n}, {a} and {b}"),
+            Kind::Remove => write!(f, "remove, n = {n}, {a} and {b}"),
+            Kind::Load => write!(f, "load"),
+            Kind::Write => write!(f, "write"),
+            Kind::Reconcile => write!(f, "reconcile"),
+            Kind::List => write!(f, "list"),
+        }
+    }
+}
+
+impl Kind {
+    /// The refusal in an answer of this kind of call, 0 for acceptance.
+    pub fn refusal(self, answer: u64) -> u64 {
+        match self {
+            Kind::Score | Kind::List => {
+                let negated = answer.wrapping_neg();
+                if negated <= 12 {
+                    negated
+                } else {
+                    0
+                }
+            }
+            _ => answer,
+        }
+    }
+}
+
+/// Every buffer that a call can be lent.
+#[derive(Clone, Default, PartialEq, Eq)]
+pub struct Memory {
+    pub edges: Vec<u8>,
+    /// Each figure as eight bytes, least significant first; calls that take numbers are lent as
+    /// many as there are whole ones.
+    pub figures: Vec<u8>,
+    pub marks: Vec<u8>,
+    pub snapshot: Vec<u8>,
+    pub theirs: Vec<u8>,
+    pub base: Vec<u8>,
+    pub entries: Vec<u64>,
+    pub scratch: Vec<u8>,
+}
+
+impl Memory {
+    /// Runs the call of one version over this memory.
+    pub fn run(&mut self, version: &dyn Calls, call: Call) -> u64 {
+        let Call { kind, n, a, b } = call;
+        match kind {
+            Kind::Clear => version.clear(n, &mut self.edges, &mut self.figures, &mut self.marks),
+            Kind::Add => version.add(n, &mut self.edges, &mut self.figures, &mut self.marks, a, b),
+            Kind::Remove => version.remove(n, &mut self.edges, &mut self.figures, &mut self.marks, a, b),
+            Kind::Score => version.score(n, &self.edges, a),
+            Kind::Load => self.over_numbers(|memory, figures| {
+                version.load(&mut memory.edges, figures, &mut memory.marks, &memory.snapshot)
+            }),
+            Kind::Write => self.over_numbers(|memory, figures| {
+                version.write(&mut memory.edges, figures, &mut memory.marks, &mut memory.snapshot)
+            }),
+            Kind::Reconcile => self.over_numbers(|memory, figures| {
+                version.reconcile(&mut memory.edges, figures, &mut memory.marks, &memory.theirs, &memory.base)
+            }),
+            Kind::List => self.over_numbers(|memory, figures| {
+                version.list(&mut memory.edges, figures, &mut memory.marks, &mut memory.entries, &mut memory.scratch)
+            }),
+        }
+    }
+
+    fn over_numbers(&mut self, call: impl FnOnce(&mut Memory, &mut [u64]) -> u64) -> u64 {
+        let mut numbers: Vec<u64> = self
+            .figures
+            .chunks_exact(8)
+            .map(|bytes| u64::from_le_bytes(bytes.try_into().expect("eight bytes")))
+            .collect();
+        let answer = call(self, &mut numbers);
+        for (bytes, number) in self.figures.chunks_exact_mut(8).zip(numbers) {
+            bytes.copy_from_slice(&number.to_le_bytes());
+        }
+        answer
+    }
+
+    /// Where two memories differ first: the buffer, the place and both values.
+    pub fn difference(&self, other: &Memory) -> Option<String> {
+        let bytes = [
+            ("edges byte", &self.edges, &other.edges),
+            ("figures byte", &self.figures, &other.figures),
+            ("marks byte", &self.marks, &other.marks),
+            ("snapshot byte", &self.snapshot, &other.snapshot),
+            ("theirs byte", &self.theirs, &other.theirs),
+            ("base byte", &self.base, &other.base),
+            ("scratch byte", &self.scratch, &other.scratch),
+        ];
+        for (name, mine, yours) in bytes {
+            if let Some(place) = (0..mine.len()).find(|&i| mine[i] != yours[i]) {
+                return Some(format!("{name} {place}: {:#04x} against {:#04x}", mine[place], yours[place]));
+            }
+        }
+        let place = (0..self.entries.len()).find(|&i| self.entries[i] != other.entries[i])?;
+        Some(format!("entries number {place}: {} against {}", self.entries[place], other.entries[place]))
+    }
+}
+
+/// The buffers, long ones cut.
+impl fmt::Display for Memory {
+    fn fmt(&self, f: &mut fmt::Formatter) -> fmt::Result {
+        let bytes = [
+            ("edges", &self.edges),
+            ("figures", &self.figures),
+            ("marks", &self.marks),
+            ("snapshot", &self.snapshot),
+            ("theirs", &self.theirs),
+            ("base", &self.base),
+            ("scratch", &self.scratch),
+        ];
+        for (name, buffer) in bytes {
+            write!(f, "  {name}, {} bytes:", buffer.len())?;
+            for byte in buffer.iter().take(64) {
+                write!(f, " {byte:02x}")?;
+            }
+            writeln!(f, "{}", if buffer.len() > 64 { " .." } else { "" })?;
+        }
+        writeln!(f, "  entries, {} numbers", self.entries.len())
+    }
+}

@@ -1,0 +1,92 @@
+//! The plain version behind the C functions' signatures.
+
+use super::refusal::{refuse_if, Refusal};
+use super::score::Scorer;
+use super::state::{check_node_count, State};
+use super::{clear, edit, list, reconcile, score, snapshot};
+use crate::calls::Calls;
+
+/// The plain version with one of its two ways to score.
+pub struct Plain {
+    pub name: &'static str,
+    pub scorer: Scorer,
+}
+
+/// The refusal number, 0 for acceptance.
+fn number(answer: Result<(), Refusal>) -> u64 {
+    answer.map_or_else(Refusal::number, |()| 0)
+}
+
+/// A value, or 2^64 less the refusal number.
+fn value(answer: Result<u64, Refusal>) -> u64 {
+    answer.unwrap_or_else(|refusal| refusal.number().wrapping_neg())
+}
+
+/// Runs a call over figures that are 8n bytes, each figure least significant byte first; another
+/// length is refusal 2.
+fn over_bytes(
+    n: u64,
+    edges: &mut [u8],
+    figures: &mut [u8],
+    marks: &mut [u8],
+    call: impl FnOnce(State) -> Result<(), Refusal>,
+) -> Result<(), Refusal> {
+    check_node_count(n)?;
+    refuse_if(figures.len() as u64 != 8 * n, Refusal::BufferLength)?;
+    let mut numbers: Vec<u64> = figures
+        .chunks_exact(8)
+        .map(|bytes| bytes.iter().rev().fold(0, |sum, &byte| sum << 8 | u64::from(byte)))
+        .collect();
+    let answer = call(State { edges, figures: &mut numbers, marks });
+    for (bytes, number) in figures.chunks_exact_mut(8).zip(numbers) {
+        for (place, byte) in bytes.iter_mut().enumerate() {
+            *byte = (number >> (8 * place)) as u8;
+        }
+    }
+    answer
+}
+
+impl Calls for Plain {
+    fn name(&self) -> &'static str {
+        self.name
+    }
+
+    fn clear(&self, n: u64, edges: &mut [u8], figures: &mut [u8], marks: &mut [u8]) -> u64 {
+        number(over_bytes(n, edges, figures, marks, clear::clear))
+    }
+
+    fn add(&self, n: u64, edges: &mut [u8], figures: &mut [u8], marks: &mut [u8], a: u64, b: u64) -> u64 {
+        number(over_bytes(n, edges, figures, marks, |state| edit::add(state, a, b)))
+    }
+
+    fn remove(&self, n: u64, edges: &mut [u8], figures: &mut [u8], marks: &mut [u8], a: u64, b: u64) -> u64 {
+        number(over_bytes(n, edges, figures, marks, |state| edit::remove(state, a, b)))
+    }
+
+    fn score(&self, n: u64, edges: &[u8], node: u64) -> u64 {
+        value(score::score(n, edges, node, self.scorer))
+    }
+
+    fn load(&self, edges: &mut [u8], figures: &mut [u64], marks: &mut [u8], snapshot: &[u8]) -> u64 {
+        number(snapshot::load(State { edges, figures, marks }, snapshot))
+    }
+
+    fn write(&self, edges: &mut [u8], figures: &mut [u64], marks: &mut [u8], snapshot: &mut [u8]) -> u64 {
+        number(snapshot::write(State { edges, figures, marks }, snapshot))
+    }
+
+    fn reconcile(&self, edges: &mut [u8], figures: &mut [u64], marks: &mut [u8], theirs: &[u8], base: &[u8]) -> u64 {
+        number(reconcile::reconcile(State { edges, figures, marks }, theirs, base))
+    }
+
+    fn list(
+        &self,
+        edges: &mut [u8],
+        figures: &mut [u64],
+        marks: &mut [u8],
+        entries: &mut [u64],
+        scratch: &mut [u8],
+    ) -> u64 {
+        value(list::list(State { edges, figures, marks }, entries, scratch, self.scorer))
+    }
+}

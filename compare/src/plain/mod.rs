@@ -1,0 +1,22 @@
+//! Every call in plain Rust, written from the description alone and kept as simple as it allows:
+//! the yardstick of the comparison. Nothing here is tuned.
+
+pub mod calls;
+pub mod clear;
+pub mod derived;
+pub mod edit;
+pub mod graph;
+pub mod limits;
+pub mod list;
+pub mod packing;
+pub mod paths;
+pub mod reconcile;
+pub mod refusal;
+pub mod replay;
+pub mod score;
+pub mod script;
+pub mod snapshot;
+pub mod state;
+
+#[cfg(test)]
+mod tests;

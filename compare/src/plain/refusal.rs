@@ -1,0 +1,45 @@
+//! Why a call turns back. The numbers are the description's, in the order in which they are tested.
+
+#[derive(Clone, Copy, Debug, PartialEq, Eq)]
+pub enum Refusal {
+    /// n is 0 or above 256.
+    NodeCount = 1,
+    /// An edges, marks, figures or written-snapshot buffer has another length than n requires.
+    BufferLength = 2,
+    /// The scratch is shorter than n bytes.
+    ShortScratch = 3,
+    /// A node number is n or more.
+    NoSuchNode = 4,
+    /// The two nodes are the same.
+    SameNode = 5,
+    /// An add names an edge that exists.
+    EdgeExists = 6,
+    /// A remove names an edge that does not exist.
+    NoSuchEdge = 7,
+    /// k is 0 or above n.
+    EntryCount = 8,
+    /// A snapshot is empty, has a wrong length or spare bits that are not 0.
+    BadSnapshot = 9,
+    /// A snapshot's node count differs from the state's.
+    OtherNodeCount = 10,
+    /// Before the call a node has more than 32 edges.
+    Crowded = 11,
+    /// After the call a node would have more than 32 edges.
+    WouldCrowd = 12,
+}
+
+impl Refusal {
+    /// The number that a call answers with.
+    pub fn number(self) -> u64 {
+        self as u64
+    }
+}
+
+/// `Err(refusal)` where the condition applies.
+pub fn refuse_if(condition: bool, refusal: Refusal) -> Result<(), Refusal> {
+    if condition {
+        Err(refusal)
+    } else {
+        Ok(())
+    }
+}

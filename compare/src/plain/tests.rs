@@ -1,0 +1,147 @@
+//! The description's worked cases, run on the plain version with both ways to score.
+
+use super::calls::Plain;
+use super::limits::UNIT;
+use super::packing::{edge_bytes, mark_bytes};
+use super::replay::replay;
+use super::{derived, paths};
+use crate::calls::Calls;
+
+const BOTH: [Plain; 2] =
+    [Plain { name: "paths", scorer: paths::score }, Plain { name: "derived", scorer: derived::score }];
+
+/// A state that owns its buffers.
+struct Board {
+    n: usize,
+    edges: Vec<u8>,
+    figures: Vec<u8>,
+    marks: Vec<u8>,
+}
+
+impl Board {
+    fn with(plain: &Plain, n: usize, pairs: &[(u64, u64)]) -> Board {
+        let mut board =
+            Board { n, edges: vec![255; edge_bytes(n)], figures: vec![255; 8 * n], marks: vec![255; mark_bytes(n)] };
+        assert_eq!(plain.clear(n as u64, &mut board.edges, &mut board.figures, &mut board.marks), 0);
+        for &(a, b) in pairs {
+            assert_eq!(board.add(plain, a, b), 0);
+        }
+        board
+    }
+
+    fn add(&mut self, plain: &Plain, a: u64, b: u64) -> u64 {
+        plain.add(self.n as u64, &mut self.edges, &mut self.figures, &mut self.marks, a, b)
+    }
+
+    fn remove(&mut self, plain: &Plain, a: u64, b: u64) -> u64 {
+        plain.remove(self.n as u64, &mut self.edges, &mut self.figures, &mut self.marks, a, b)
+    }
+
+    fn scores(&self, plain: &Plain) -> Vec<u64> {
+        (0..self.n).map(|p| plain.score(self.n as u64, &self.edges, p as u64)).collect()
+    }
+
+    fn list(&mut self, plain: &Plain, k: usize) -> (u64, Vec<u64>) {
+        let mut figures: Vec<u64> = self.figures.chunks(8).map(|b| u64::from_le_bytes(b.try_into().unwrap())).collect();
+        let mut entries = vec![7; 2 * k];
+        let mut scratch = vec![9; self.n];
+        let worked = plain.list(&mut self.edges, &mut figures, &mut self.marks, &mut entries, &mut scratch);
+        assert_eq!(scratch, vec![0; self.n]);
+        (worked, entries)
+    }
+}
+
+#[test]
+fn no_edges_score_0() {
+    for plain in &BOTH {
+        assert_eq!(Board::with(plain, 5, &[]).scores(plain), [0; 5]);
+    }
+}
+
+#[test]
+fn one_node_has_no_edge_bytes_and_lists_itself() {
+    for plain in &BOTH {
+        let mut board = Board::with(plain, 1, &[]);
+        assert!(board.edges.is_empty());
+        assert_eq!(board.list(plain, 1), (0, vec![0, 0]));
+    }
+}
+
+#[test]
+fn a_star_of_4_is_byte_d0_and_scores_3() {
+    for plain in &BOTH {
+        let board = Board::with(plain, 4, &[(0, 1), (0, 2), (0, 3)]);
+        assert_eq!(board.edges, [0xD0]);
+        assert_eq!(board.scores(plain), [3 * UNIT, 0, 0, 0]);
+    }
+}
+
+#[test]
+fn each_node_of_a_ring_of_4_scores_1() {
+    for plain in &BOTH {
+        let board = Board::with(plain, 4, &[(0, 1), (1, 2), (2, 3), (3, 0)]);
+        assert_eq!(board.scores(plain), [UNIT; 4]);
+    }
+}
+
+#[test]
+fn all_edges_of_4_but_one() {
+    const HALF: u64 = 36_100_888_223_400;
+    for plain in &BOTH {
+        let mut board = Board::with(plain, 4, &[(0, 1), (0, 2), (0, 3), (1, 2), (1, 3)]);
+        assert_eq!(board.scores(plain), [HALF, HALF, 0, 0]);
+        assert_eq!(board.add(plain, 2, 3), 0);
+        assert_eq!(board.scores(plain), [0; 4]);
+        assert_eq!(board.remove(plain, 2, 3), 0);
+        assert_eq!(board.scores(plain), [HALF, HALF, 0, 0]);
+    }
+}
+
+#[test]
+fn the_middle_of_a_path_goes_from_0_to_1() {
+    for plain in &BOTH {
+        let mut board = Board::with(plain, 3, &[(0, 1)]);
+        assert_eq!(board.scores(plain), [0; 3]);
+        assert_eq!(board.add(plain, 1, 2), 0);
+        assert_eq!(board.scores(plain), [0, UNIT, 0]);
+    }
+}
+
+#[test]
+fn example_1_of_the_source_scores_14_thirds() {
+    // d is 0; a b c g h i are 1 to 6
+    let edges =
+        [(0, 1), (0, 2), (0, 3), (0, 4), (0, 5), (0, 6), (1, 2), (1, 3), (2, 3), (3, 4), (3, 5), (4, 6), (5, 6)];
+    for plain in &BOTH {
+        let board = Board::with(plain, 7, &edges);
+        assert_eq!(board.scores(plain)[0], 336_941_623_418_400);
+        assert_eq!(3 * board.scores(plain)[0], 14 * UNIT);
+    }
+}
+
+#[test]
+fn reconcile_keeps_only_what_mine_added() {
+    for plain in &BOTH {
+        let mut mine = Board::with(plain, 3, &[(0, 1), (0, 2)]);
+        let base = Board::with(plain, 3, &[(0, 1)]).edges;
+        let theirs = Board::with(plain, 3, &[]).edges;
+        let mut figures = [0; 3];
+        let answer = plain.reconcile(&mut mine.edges, &mut figures, &mut mine.marks, &theirs, &base);
+        assert_eq!(answer, 0);
+        assert_eq!(mine.edges, Board::with(plain, 3, &[(0, 2)]).edges);
+    }
+}
+
+#[test]
+fn the_listing_of_the_script_program() {
+    let script = [0x03, 0x40, 0, 0x50, 0, 0x24, 0, 0x0F, 0x01, 0, 0, 0, 0];
+    let printed = "posts 4\nadd 0 1 0\nadd 0 2 0\nadd 0 3 0\nhead 2 0 2\n0 216605329340400\n1 0\nend\n";
+    assert_eq!(replay(&script), printed);
+}
+
+#[test]
+fn an_input_that_is_empty_or_too_long_is_bad() {
+    assert_eq!(replay(&[]), "bad\n");
+    assert_eq!(replay(&[0; 65_537]), "bad\n");
+    assert_eq!(replay(&[0; 65_536]), "posts 1\nbad\n");
+}

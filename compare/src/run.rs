@@ -1,0 +1,121 @@
+//! The comparison: random histories and single damaged calls, every answer and every lent byte.
+
+use crate::calls::Calls;
+use crate::generate::{call_of_kind, corrupt, damage, next_call, node_count, state};
+use crate::memory::{Call, Kind, Memory, KINDS};
+use crate::plain::calls::Plain;
+use crate::plain::{derived, paths};
+use crate::rng::Rng;
+
+const BY_PATHS: Plain = Plain { name: "plain (paths)", scorer: paths::score };
+const BY_FORM: Plain = Plain { name: "plain (derived form)", scorer: derived::score };
+
+/// What a run met: how often each kind of call gave each refusal.
+#[derive(Default)]
+pub struct Tally {
+    pub calls: usize,
+    pub histories: usize,
+    pub singles: usize,
+    refusals: [[usize; 13]; 8],
+}
+
+impl Tally {
+    fn count(&mut self, kind: Kind, answer: u64) {
+        self.calls += 1;
+        let row = KINDS.iter().position(|&other| other == kind).expect("every kind is listed");
+        self.refusals[row][kind.refusal(answer) as usize] += 1;
+    }
+
+    /// A line for each kind of call, a column for each refusal number.
+    pub fn table(&self) -> String {
+        let mut out = format!("{:<10}", "refusal");
+        for number in 0..=12 {
+            out += &format!("{number:>7}");
+        }
+        for (kind, row) in KINDS.iter().zip(&self.refusals) {
+            out += &format!("\n{:<10}", format!("{kind:?}").to_lowercase());
+            for &times in row {
+                out += &if times == 0 { format!("{:>7}", ".") } else { format!("{times:>7}") };
+            }
+        }
+        out
+    }
+}
+
+/// Compares one call of `version` with the plain version. The memory ends as the plain version
+/// leaves it.
+fn compare(version: &dyn Calls, call: Call, memory: &mut Memory) -> Result<u64, String> {
+    let before = memory.clone();
+    let answer = memory.run(&BY_PATHS, call);
+    if matches!(call.kind, Kind::Score | Kind::List) {
+        agree(&BY_FORM, call, &before, memory, answer)?;
+    }
+    agree(version, call, &before, memory, answer)?;
+    Ok(answer)
+}
+
+/// `version` gives the answer and the memory that the plain version gave.
+fn agree(version: &dyn Calls, call: Call, before: &Memory, after: &Memory, answer: u64) -> Result<(), String> {
+    let mut own = before.clone();
+    let given = own.run(version, call);
+    let what = if given != answer {
+        format!("the answer: {given} against {answer}")
+    } else if let Some(place) = own.difference(after) {
+        place
+    } else {
+        return Ok(());
+    };
+    Err(format!("{} against {}, {call}\n  {what}\nbefore the call:\n{before}", version.name(), BY_PATHS.name))
+}
+
+/// Runs about `calls` calls from `seed`.
+pub fn run(version: &dyn Calls, seed: u64, calls: usize) -> Result<Tally, String> {
+    let mut tally = Tally::default();
+    let mut seeds = Rng::new(seed);
+    while tally.calls < calls {
+        let mut rng = Rng::new(seeds.next());
+        let n = node_count(&mut rng);
+        let mut memory = state(&mut rng, n);
+        let single = rng.chance(97);
+        let steps = if single {
+            1
+        } else if rng.chance(50) {
+            rng.between(2, 12)
+        } else {
+            rng.between(40, 240)
+        };
+        for step in 0..steps {
+            let kind = rng.pick(&KINDS);
+            let mut call = match step {
+                0 if single => call_of_kind(&mut rng, n, &mut memory, kind),
+                0 if rng.chance(45) => call_of_kind(&mut rng, n, &mut memory, Kind::Clear),
+                0 if rng.chance(80) => call_of_kind(&mut rng, n, &mut memory, Kind::Load),
+                _ => next_call(&mut rng, n, &mut memory),
+            };
+            // a damaged call is made on a copy, so that the history goes on from whole buffers
+            let damaged = rng.chance(if single { 60 } else { 6 });
+            let mut copy = memory.clone();
+            let lent = if damaged { &mut copy } else { &mut memory };
+            if damaged {
+                for _ in 0..rng.between(1, 2) {
+                    damage(&mut rng, n, lent, &mut call);
+                }
+            }
+            let answer = compare(version, call, lent).map_err(|difference| {
+                let number = tally.calls + 1;
+                let place = format!("seed {seed}, call {number} (step {} of its history)", step + 1);
+                format!("DIFFERENCE at {place}; seed {seed} with {number} calls shows it again\n  {difference}")
+            })?;
+            tally.count(call.kind, answer);
+            if rng.chance(3) {
+                corrupt(&mut rng, n, &mut memory);
+            }
+        }
+        if single {
+            tally.singles += 1;
+        } else {
+            tally.histories += 1;
+        }
+    }
+    Ok(tally)
+}

@@ -1,0 +1,51 @@
+//! The tuned version behind the C functions' signatures.
+
+use super::{edit, list, merge, score, snapshot};
+use crate::calls::Calls;
+
+pub struct Tuned;
+
+impl Calls for Tuned {
+    fn name(&self) -> &'static str {
+        "tuned"
+    }
+
+    fn clear(&self, n: u64, edges: &mut [u8], figures: &mut [u8], marks: &mut [u8]) -> u64 {
+        edit::clear(n, edges, figures, marks)
+    }
+
+    fn add(&self, n: u64, edges: &mut [u8], figures: &mut [u8], marks: &mut [u8], a: u64, b: u64) -> u64 {
+        edit::edit(n, edges, figures, marks, a, b, true)
+    }
+
+    fn remove(&self, n: u64, edges: &mut [u8], figures: &mut [u8], marks: &mut [u8], a: u64, b: u64) -> u64 {
+        edit::edit(n, edges, figures, marks, a, b, false)
+    }
+
+    fn score(&self, n: u64, edges: &[u8], node: u64) -> u64 {
+        score::score(n, edges, node).unwrap_or_else(u64::wrapping_neg)
+    }
+
+    fn load(&self, edges: &mut [u8], figures: &mut [u64], marks: &mut [u8], snapshot: &[u8]) -> u64 {
+        snapshot::load(edges, figures, marks, snapshot)
+    }
+
+    fn write(&self, edges: &mut [u8], figures: &mut [u64], marks: &mut [u8], snapshot: &mut [u8]) -> u64 {
+        snapshot::write(edges, figures, marks, snapshot)
+    }
+
+    fn reconcile(&self, edges: &mut [u8], figures: &mut [u64], marks: &mut [u8], theirs: &[u8], base: &[u8]) -> u64 {
+        merge::reconcile(edges, figures, marks, theirs, base)
+    }
+
+    fn list(
+        &self,
+        edges: &mut [u8],
+        figures: &mut [u64],
+        marks: &mut [u8],
+        entries: &mut [u64],
+        scratch: &mut [u8],
+    ) -> u64 {
+        list::list(edges, figures, marks, entries, scratch).unwrap_or_else(u64::wrapping_neg)
+    }
+}

@@ -1,0 +1,13 @@
+//! Every call again, tuned as its author would tune it: bit rows, counts of ones, windows of 64
+//! bits, no pass that is not needed. The benchmark measures the proved library against this.
+
+mod calls;
+mod edit;
+mod list;
+mod merge;
+mod refuse;
+mod rows;
+mod score;
+mod snapshot;
+
+pub use calls::Tuned;

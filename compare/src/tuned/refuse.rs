@@ -1,0 +1,47 @@
+//! Refusal numbers, sizes and ceilings.
+
+pub const NODE_COUNT: u64 = 1;
+pub const BUFFER_LENGTH: u64 = 2;
+pub const SHORT_SCRATCH: u64 = 3;
+pub const NO_SUCH_NODE: u64 = 4;
+pub const SAME_NODE: u64 = 5;
+pub const EDGE_EXISTS: u64 = 6;
+pub const NO_SUCH_EDGE: u64 = 7;
+pub const ENTRY_COUNT: u64 = 8;
+pub const BAD_SNAPSHOT: u64 = 9;
+pub const OTHER_NODE_COUNT: u64 = 10;
+pub const CROWDED: u64 = 11;
+pub const WOULD_CROWD: u64 = 12;
+
+pub const LIMIT: u32 = 32;
+pub const UNIT: u64 = 72_201_776_446_800;
+
+#[inline]
+pub fn edge_bytes(n: usize) -> usize {
+    (n * (n - 1) / 2).div_ceil(8)
+}
+
+/// The ceiling of a node of `degree` edges.
+#[inline]
+pub fn bound(degree: u32) -> u64 {
+    let degree = u64::from(degree);
+    degree * degree.wrapping_sub(1) / 2 * UNIT
+}
+
+/// Refusals 1 and 2 of the edges and the marks, 0 where neither applies.
+#[inline]
+pub fn state(n: u64, edges: &[u8], marks: &[u8]) -> u64 {
+    if n == 0 || n > 256 {
+        return NODE_COUNT;
+    }
+    let n = n as usize;
+    if edges.len() != edge_bytes(n) || marks.len() != n.div_ceil(8) {
+        return BUFFER_LENGTH;
+    }
+    0
+}
+
+#[inline]
+pub fn any_over(degrees: &[u16]) -> bool {
+    degrees.iter().any(|&degree| u32::from(degree) > LIMIT)
+}

@@ -1,0 +1,17 @@
+//! The versions of this package agree with each other, on the named cases and on random histories.
+
+use compare::plain::calls::Plain;
+use compare::plain::{derived, paths};
+use compare::{named, run, tuned::Tuned};
+
+#[test]
+fn the_named_cases_hold_of_every_version() {
+    named::run(&Plain { name: "plain (paths)", scorer: paths::score }).unwrap();
+    named::run(&Plain { name: "plain (derived form)", scorer: derived::score }).unwrap();
+    named::run(&Tuned).unwrap();
+}
+
+#[test]
+fn the_tuned_version_agrees_with_the_plain_one() {
+    run::run(&Tuned, 7, 3_000).unwrap_or_else(|difference| panic!("{difference}"));
+}

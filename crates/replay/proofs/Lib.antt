@@ -1,0 +1,2 @@
+-- The laws behind `replay`.
+pub mod DigitLaws

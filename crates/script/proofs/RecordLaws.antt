@@ -1,0 +1,98 @@
+-- What the reader's tests show of what stands at a position. Assumes nothing.
+use mathlib.Core.Bool.{Bool, cond, false, true}
+use mathlib.Core.List.{List}
+use mathlib.Core.Path.{ap, sym, _∙_, _≡_}
+use Prim.Native.Nat.{_*_, _+_, _-_, _<_, ℕ, _≤_}
+use native.Mathlib.Decide.{decLt}
+use native.Mathlib.Omega.{arith}
+use borrow.Author.Tests.{eq-eqb, le-ltb, lt-ltb, ne-eqb}
+use lib.Dec.{eqb}
+use lib.ListN.{length}
+use Rattle.script.proofs.FieldLaws.{field-zero}
+use Rattle.script.specs.Field.{fieldAt}
+use Rattle.script.specs.Limits.{maxBytes, recordBits}
+use Rattle.script.specs.Record.{aAt, bAt, bitsLeft, endsAt, kindAt, stepAt}
+use Rattle.script.specs.declared.reader.Step.{Step}
+use Rattle.script.specs.declared.reader.Step.the-variants.{Add, End, ListFirst, Malformed, Remove}
+
+-- what the reader has read at a position: enough bits are left, and the record's three numbers
+pub record Found (script : List ℕ) (at left kind a b : ℕ) : Type 0 where
+  pub bits : left ≡ bitsLeft script at
+  pub enough : recordBits ≤ left
+  pub kinds : kind ≡ kindAt script at
+  pub first : a ≡ aAt script at
+  pub second : b ≡ bAt script at
+
+-- ---- the bits that are left
+
+module _ (script : List ℕ) (at : ℕ) where
+  pub left-long : maxBytes < length script → bitsLeft script at ≡ 0
+  unfolding bitsLeft
+  left-long h = rw (lt-ltb _ _ h)
+
+  pub left-is : length script ≤ maxBytes → bitsLeft script at ≡ 8 * length script - at
+  unfolding bitsLeft
+  left-is h = rw (le-ltb _ _ h)
+
+  -- where a record's bits are left, the script is not too long, and they are up to its end
+  pub left-room : (left : ℕ) → left ≡ bitsLeft script at → recordBits ≤ left → (length script ≤ maxBytes) × (at + left ≡ 8 * length script)
+  left-room left e h = elim (decLt maxBytes (length script)) [
+    | yes l ↦ absurd (omega (arith, left-long l))
+    | no l ↦ let s : length script ≤ maxBytes = omega arith in (s, omega (arith, left-is s))
+  ]
+
+  -- ---- the end
+
+  module _ {left a b : ℕ} (el : left ≡ bitsLeft script at) (ea : a ≡ aAt script at) (eb : b ≡ bAt script at) where
+    pub ends-a : (a ≡ 0 → ⊥) → false ≡ endsAt script at
+    unfolding endsAt
+    ends-a da = rw (← ea, ne-eqb a 0 da)
+
+    pub ends-b : a ≡ 0 → (b ≡ 0 → ⊥) → false ≡ endsAt script at
+    unfolding endsAt
+    ends-b za db = rw (← ea, ← eb, eq-eqb a 0 za, ne-eqb b 0 db)
+
+    pub ends-more : a ≡ 0 → b ≡ 0 → 8 ≤ left - recordBits → false ≡ endsAt script at
+    unfolding endsAt
+    ends-more za zb h = rw (← ea, ← eb, ← el, eq-eqb a 0 za, eq-eqb b 0 zb, le-ltb (left - recordBits) 8 h)
+
+    pub ends-rest : (rest : ℕ) → a ≡ 0 → b ≡ 0 → left - recordBits < 8 → rest ≡ fieldAt script (at + recordBits) (left - recordBits) → eqb rest 0 ≡ endsAt script at
+    unfolding endsAt
+    ends-rest rest za zb h q =
+        rw (← ea, ← eb, ← el, eq-eqb a 0 za, eq-eqb b 0 zb, lt-ltb (left - recordBits) 8 h)
+        (ap (λ (x : ℕ). eqb x 0) q ∙ field-zero script (at + recordBits) (left - recordBits))
+
+  -- ---- the records
+
+  pub step-few : (left : ℕ) → left ≡ bitsLeft script at → left < recordBits → Malformed ≡ stepAt script at
+  unfolding stepAt
+  step-few left e h = rw (← e, lt-ltb left recordBits h)
+
+  module _ {left kind a b : ℕ} (f : Found script at left kind a b) where
+    pub step-add : kind ≡ 1 → Add a b (at + recordBits) ≡ stepAt script at
+    unfolding stepAt
+    step-add k = rw (← f .bits, ← f .kinds, ← f .first, ← f .second, le-ltb left recordBits (f .enough), eq-eqb kind 1 k)
+
+    pub step-remove : (kind ≡ 1 → ⊥) → kind ≡ 2 → Remove a b (at + recordBits) ≡ stepAt script at
+    unfolding stepAt
+    step-remove d1 k = rw (← f .bits, ← f .kinds, ← f .first, ← f .second, le-ltb left recordBits (f .enough), ne-eqb kind 1 d1, eq-eqb kind 2 k)
+
+    pub step-list : (kind ≡ 1 → ⊥) → (kind ≡ 2 → ⊥) → kind ≡ 3 → b ≡ 0 → ListFirst (a + 1) (at + recordBits) ≡ stepAt script at
+    unfolding stepAt
+    step-list d1 d2 k zb =
+        rw (← f .bits, ← f .kinds, ← f .first, ← f .second, le-ltb left recordBits (f .enough), ne-eqb kind 1 d1, ne-eqb kind 2 d2, eq-eqb kind 3 k, eq-eqb b 0 zb)
+
+    pub step-list-b : (kind ≡ 1 → ⊥) → (kind ≡ 2 → ⊥) → kind ≡ 3 → (b ≡ 0 → ⊥) → Malformed ≡ stepAt script at
+    unfolding stepAt
+    step-list-b d1 d2 k db =
+        rw (← f .bits, ← f .kinds, ← f .first, ← f .second, le-ltb left recordBits (f .enough), ne-eqb kind 1 d1, ne-eqb kind 2 d2, eq-eqb kind 3 k, ne-eqb b 0 db)
+
+    step-other : (kind ≡ 1 → ⊥) → (kind ≡ 2 → ⊥) → (kind ≡ 3 → ⊥) → cond (endsAt script at) End Malformed ≡ stepAt script at
+    unfolding stepAt
+    step-other d1 d2 d3 = rw (← f .bits, ← f .kinds, ← f .first, ← f .second, le-ltb left recordBits (f .enough), ne-eqb kind 1 d1, ne-eqb kind 2 d2, ne-eqb kind 3 d3)
+
+    pub step-end : (kind ≡ 1 → ⊥) → (kind ≡ 2 → ⊥) → (kind ≡ 3 → ⊥) → endsAt script at ≡ true → End ≡ stepAt script at
+    step-end d1 d2 d3 e = ap (λ (x : Bool). cond x End Malformed) (sym e) ∙ step-other d1 d2 d3
+
+    pub step-bad-end : (kind ≡ 1 → ⊥) → (kind ≡ 2 → ⊥) → (kind ≡ 3 → ⊥) → endsAt script at ≡ false → Malformed ≡ stepAt script at
+    step-bad-end d1 d2 d3 e = ap (λ (x : Bool). cond x End Malformed) (sym e) ∙ step-other d1 d2 d3

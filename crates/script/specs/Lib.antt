@@ -1,0 +1,5 @@
+-- What the contracts of `script` cite.
+pub mod Field
+pub mod Limits
+pub mod Reading
+pub mod Record

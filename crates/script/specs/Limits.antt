@@ -1,0 +1,14 @@
+-- The sizes of the script format. Assumes nothing.
+use Prim.Native.Nat.{ℕ}
+
+-- a script has at most 65,536 bytes
+abbrev pub maxBytes : ℕ
+maxBytes = 65536
+
+-- a record has 18 bits
+abbrev pub recordBits : ℕ
+recordBits = 18
+
+-- a number in a record has at most 8
+abbrev pub maxWidth : ℕ
+maxWidth = 8

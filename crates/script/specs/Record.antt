@@ -1,0 +1,47 @@
+-- What stands at a bit's position of a script, as 01's "Scripts" says. Positions count the bits of the whole script, its first byte included.
+-- Assumes nothing.
+use mathlib.Core.Bool.{Bool, cond, not, _&&_}
+use mathlib.Core.List.{List}
+use Prim.Native.Nat.{ℕ, _+_, _*_, _-_}
+use lib.Dec.{eqb, ltb}
+use lib.ListN.{length}
+use Rattle.arith.specs.Sums.{anyTo}
+use Rattle.packed.specs.Bits.{bitAt}
+use Rattle.script.specs.Field.{fieldAt}
+use Rattle.script.specs.Limits.{maxBytes, recordBits}
+use Rattle.script.specs.declared.reader.Step.{Step}
+use Rattle.script.specs.declared.reader.Step.the-variants.{Add, Remove, ListFirst, End, Malformed}
+
+-- records of 18 bits, packed, most significant first: kind (2 bits), a (8), b (8)
+abbrev pub kindAt : List ℕ → ℕ → ℕ
+kindAt script at = fieldAt script at 2
+
+abbrev pub aAt : List ℕ → ℕ → ℕ
+aAt script at = fieldAt script (at + 2) 8
+
+abbrev pub bAt : List ℕ → ℕ → ℕ
+bAt script at = fieldAt script (at + 10) 8
+
+-- the bits from a position to the end of input; what is longer than a script has none to read
+unfoldable pub bitsLeft : List ℕ → ℕ → ℕ
+bitsLeft script at = cond (ltb maxBytes (length script)) 0 (8 * length script - at)
+
+-- 0 ends, with a = b = 0 and then fewer than 8 bits, all 0, to the end of input
+unfoldable pub endsAt : List ℕ → ℕ → Bool
+endsAt script at =
+    let rest : ℕ = bitsLeft script at - recordBits in
+    eqb (aAt script at) 0 && (eqb (bAt script at) 0 && (ltb rest 8 && not (anyTo (λ i. bitAt script (at + recordBits + i)) rest)))
+
+-- With too few bits left, malformed, which is refusal 9. Kind 1 adds the link a, b; 2 removes it; 3 lists k = a + 1 with b = 0; 0, the one kind
+-- that is left of 2 bits, ends. Each record comes with the position past it.
+unfoldable pub stepAt : List ℕ → ℕ → Step
+stepAt script at =
+    let kind : ℕ = kindAt script at in
+    let a : ℕ = aAt script at in
+    let b : ℕ = bAt script at in
+    let next : ℕ = at + recordBits in
+    cond (ltb (bitsLeft script at) recordBits) Malformed
+    (cond (eqb kind 1) (Add a b next)
+    (cond (eqb kind 2) (Remove a b next)
+    (cond (eqb kind 3) (cond (eqb b 0) (ListFirst (a + 1) next) Malformed)
+    (cond (endsAt script at) End Malformed))))
