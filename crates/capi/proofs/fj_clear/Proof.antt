@@ -1,0 +1,59 @@
+-- `capi::fj_clear` meets its contract. Assumes nothing.
+use mathlib.Core.Path.{ap, sym, _∙_}
+use Prim.Native.Nat.{_*_}
+use borrow.Author.Needs.{needs}
+use denote.Ref.{now}
+use lib.Seq.{length-take-le}
+use Rattle.capi.proofs.CallLaws.{called-passed, called-refused, lent-by, room-part}
+use Rattle.capi.specs.Calls.{fjClear}
+use Rattle.state.specs.Clear.{clearCall}
+use Rattle.state.specs.Outcome.{state}
+use Rattle.capi.proofs.fj_clear.Statement.{statement}
+use Rattle.capi.proofs.fj_clear.Tie as tie
+
+length-refusal-requires : tie.Need-length-refusal-requires
+length-refusal-requires c κs = search needs
+
+returns : tie.Need-returns
+unfolding fjClear
+returns c = called-refused clearCall _ (state (now (c .before .before .before .before .before .args .links)) (now (c .before .before .before .before .before .args .figures)) (now (c .before .before .before .before .before .args .marks))) (c .before .length-refusal .ensures) (c .if1 .taken)
+
+room-requires : tie.Need-room-requires
+room-requires c κs = search needs
+
+array-borrow-prefix-numbers : tie.Need-array-borrow-prefix-numbers
+array-borrow-prefix-numbers c = room-part ((lent-by _ _ _ _ (c .before .before .before .before .before .length-refusal .ensures) (c .before .before .before .before .if1 .left)) .few) (c .before .before .before .room .ensures)
+
+slice-aggregate-clear-in : tie.Need-slice-aggregate-clear-in
+slice-aggregate-clear-in c = sym (length-take-le _ _ (room-part ((lent-by _ _ _ _ (c .before .before .before .before .before .before .length-refusal .ensures) (c .before .before .before .before .before .if1 .left)) .few) (c .before .before .before .before .room .ensures)))
+
+clear-in-requires : tie.Need-clear-in-requires
+clear-in-requires c κs = (lent-by _ _ _ _ (c .before .before .before .before .before .before .length-refusal .ensures) (c .before .before .before .before .before .if1 .left)) .fit ∙ ap (λ m. 8 * m) (sym (length-take-le _ _ (room-part ((lent-by _ _ _ _ (c .before .before .before .before .before .before .length-refusal .ensures) (c .before .before .before .before .before .if1 .left)) .few) (c .before .before .before .before .room .ensures))))
+
+same-length : tie.Need-same-length
+same-length c = search needs
+
+same-length-2 : tie.Need-same-length-2
+same-length-2 c = search needs
+
+same-length-3 : tie.Need-same-length-3
+same-length-3 c = search needs
+
+returns-2 : tie.Need-returns-2
+unfolding fjClear
+returns-2 c = called-passed clearCall _ (state (now (c .before .before .before .before .before .before .before .before .before .before .before .before .before .before .before .before .before .before .args .links)) (now (c .before .before .before .before .before .before .before .before .before .before .before .before .before .before .before .before .before .before .args .figures)) (now (c .before .before .before .before .before .before .before .before .before .before .before .before .before .before .before .before .before .before .args .marks))) (c .before .before .before .before .before .before .before .before .before .before .before .before .before .before .length-refusal .ensures) (c .before .before .before .before .before .before .before .before .before .before .before .before .before .if1 .left) (length-take-le _ _ (room-part ((lent-by _ _ _ _ (c .before .before .before .before .before .before .before .before .before .before .before .before .before .before .length-refusal .ensures) (c .before .before .before .before .before .before .before .before .before .before .before .before .before .if1 .left)) .few) (c .before .before .before .before .before .before .before .before .before .before .before .before .room .ensures))) (c .before .before .before .before .before .before .before .clear-in .ensures)
+
+pub fj-clear-spec : {M : Type 1} → statement M
+fj-clear-spec =
+    tie.close
+    (tie.spec
+    length-refusal-requires
+    returns
+    room-requires
+    array-borrow-prefix-numbers
+    slice-aggregate-clear-in
+    clear-in-requires
+    same-length
+    same-length-2
+    same-length-3
+    returns-2)

@@ -1,0 +1,3 @@
+-- Figures as bytes, and a definition of each call that C makes.
+pub mod Figures
+pub mod Calls

@@ -1,0 +1,2 @@
+-- A definition of the list as the port answers it.
+pub mod Port
