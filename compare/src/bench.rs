@@ -1,7 +1,7 @@
 //! The benchmark: each call on the same boards, the library beside the tuned version, medians and
 //! their ratio. Nothing is asserted of a time.
 
-use crate::calls::Calls;
+use crate::calls::{Calls, Entry};
 use crate::plain::packing::{bit, edge_bytes, mark_bytes, pair_index, put_bit};
 use crate::rng::Rng;
 use crate::tuned::Tuned;
@@ -27,6 +27,7 @@ struct Board {
     snapshot: Vec<u8>,
     theirs: Vec<u8>,
     entries: Vec<u64>,
+    records: Vec<Entry>,
     scratch: Vec<u8>,
     /// The pair that an edit names, or the node that is scored.
     a: u64,
@@ -56,6 +57,7 @@ impl Board {
             marks: vec![0; mark_bytes(n)],
             theirs: Vec::new(),
             entries: vec![0; 16],
+            records: vec![Entry::default(); 8],
             scratch: vec![0; n],
             snapshot,
             a: 0,
@@ -121,6 +123,10 @@ impl Board {
     fn list(&mut self, version: &dyn Calls) -> u64 {
         version.list(&mut self.edges, &mut self.figures, &mut self.marks, &mut self.entries, &mut self.scratch)
     }
+
+    fn list_entries(&mut self, version: &dyn Calls) -> u64 {
+        version.list_entries(&mut self.edges, &mut self.figures, &mut self.marks, &mut self.records, &mut self.scratch)
+    }
 }
 
 /// The boards of one line of the table, and the call that is timed on each of them.
@@ -170,7 +176,7 @@ fn cases(rng: &mut Rng, n: usize, links: usize) -> Vec<Case> {
     (edited.a, edited.b) = (a as u64, b as u64);
     edited.remove(&Tuned);
     edited.pour_back();
-    let all = Board { entries: vec![0; 2 * n], ..board.clone() };
+    let all = Board { entries: vec![0; 2 * n], records: vec![Entry::default(); n], ..board.clone() };
     vec![
         Case { name: "clear", boards: same(&board), call: Board::clear },
         Case { name: "load", boards: same(&board), call: Board::load },
@@ -183,6 +189,9 @@ fn cases(rng: &mut Rng, n: usize, links: usize) -> Vec<Case> {
         Case { name: "list n, all open", boards: same(&all), call: Board::list },
         Case { name: "list 8, settled", boards: same(&settled), call: Board::list },
         Case { name: "list 8, one edit", boards: same(&edited), call: Board::list },
+        Case { name: "records 8, all open", boards: same(&board), call: Board::list_entries },
+        Case { name: "records n, all open", boards: same(&all), call: Board::list_entries },
+        Case { name: "records 8, settled", boards: same(&settled), call: Board::list_entries },
     ]
 }
 

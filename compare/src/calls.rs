@@ -1,5 +1,13 @@
 //! Every call as its C function gives it: numbers by value, memory lent as slices, one number back.
 
+/// An entry as a record: a node's number and its grains.
+#[repr(C)]
+#[derive(Clone, Copy, Debug, Default, PartialEq, Eq)]
+pub struct Entry {
+    pub node: u64,
+    pub figure: u64,
+}
+
 pub trait Calls {
     /// What is called, for messages.
     fn name(&self) -> &'static str;
@@ -16,6 +24,15 @@ pub trait Calls {
         figures: &mut [u64],
         marks: &mut [u8],
         entries: &mut [u64],
+        scratch: &mut [u8],
+    ) -> u64;
+    /// The list over entries as records; `list` has them in a row of numbers.
+    fn list_entries(
+        &self,
+        edges: &mut [u8],
+        figures: &mut [u64],
+        marks: &mut [u8],
+        entries: &mut [Entry],
         scratch: &mut [u8],
     ) -> u64;
 }

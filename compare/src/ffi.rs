@@ -4,9 +4,11 @@
 
 #[cfg(linked)]
 mod linked_library {
-    use crate::calls::Calls;
+    use crate::calls::{Calls, Entry};
 
     mod c {
+        use crate::calls::Entry;
+
         extern "C" {
             pub fn fj_clear(
                 n: u64,
@@ -80,6 +82,18 @@ mod linked_library {
                 marks: *mut u8,
                 marks_len: usize,
                 entries: *mut u64,
+                entries_len: usize,
+                scratch: *mut u8,
+                scratch_len: usize,
+            ) -> u64;
+            pub fn fj_port_list_entries(
+                links: *mut u8,
+                links_len: usize,
+                figures: *mut u64,
+                figures_len: usize,
+                marks: *mut u8,
+                marks_len: usize,
+                entries: *mut Entry,
                 entries_len: usize,
                 scratch: *mut u8,
                 scratch_len: usize,
@@ -210,6 +224,30 @@ mod linked_library {
         ) -> u64 {
             unsafe {
                 c::fj_port_list(
+                    edges.as_mut_ptr(),
+                    edges.len(),
+                    figures.as_mut_ptr(),
+                    figures.len(),
+                    marks.as_mut_ptr(),
+                    marks.len(),
+                    entries.as_mut_ptr(),
+                    entries.len(),
+                    scratch.as_mut_ptr(),
+                    scratch.len(),
+                )
+            }
+        }
+
+        fn list_entries(
+            &self,
+            edges: &mut [u8],
+            figures: &mut [u64],
+            marks: &mut [u8],
+            entries: &mut [Entry],
+            scratch: &mut [u8],
+        ) -> u64 {
+            unsafe {
+                c::fj_port_list_entries(
                     edges.as_mut_ptr(),
                     edges.len(),
                     figures.as_mut_ptr(),

@@ -173,7 +173,8 @@ pub fn next_call(rng: &mut Rng, n: usize, memory: &mut Memory) -> Call {
         25..=54 => Kind::Add,
         55..=74 => Kind::Remove,
         75..=82 => Kind::Reconcile,
-        _ => Kind::List,
+        83..=91 => Kind::List,
+        _ => Kind::ListEntries,
     };
     call_of_kind(rng, n, memory, kind)
 }
@@ -208,7 +209,7 @@ pub fn call_of_kind(rng: &mut Rng, n: usize, memory: &mut Memory, kind: Kind) ->
                 set_spare(rng, &mut memory.theirs, pair_count(n));
             }
         }
-        Kind::List => {
+        Kind::List | Kind::ListEntries => {
             let k = match rng.below(10) {
                 0 => n,
                 1..=3 => rng.between(1, n),
@@ -275,7 +276,7 @@ pub fn damage(rng: &mut Rng, n: usize, memory: &mut Memory, call: &mut Call) {
         Kind::Load => &[Snapshot, SnapshotOfOther, SnapshotFirst],
         Kind::Write => &[Snapshot],
         Kind::Reconcile => &[Theirs, Base],
-        Kind::List => &[Scratch, Entries],
+        Kind::List | Kind::ListEntries => &[Scratch, Entries],
     };
     let common = [Edges, Marks, Figures, OtherBoard];
     let chosen = if rng.chance(60) { rng.pick(own) } else { rng.pick(&common) };

@@ -1,6 +1,6 @@
 //! One call with everything that is lent to it.
 
-use crate::calls::Calls;
+use crate::calls::{Calls, Entry};
 use std::fmt;
 
 #[derive(Clone, Copy, Debug, PartialEq, Eq)]
@@ -13,10 +13,20 @@ pub enum Kind {
     Remove,
     Reconcile,
     List,
+    ListEntries,
 }
 
-pub const KINDS: [Kind; 8] =
-    [Kind::Clear, Kind::Load, Kind::Write, Kind::Score, Kind::Add, Kind::Remove, Kind::Reconcile, Kind::List];
+pub const KINDS: [Kind; 9] = [
+    Kind::Clear,
+    Kind::Load,
+    Kind::Write,
+    Kind::Score,
+    Kind::Add,
+    Kind::Remove,
+    Kind::Reconcile,
+    Kind::List,
+    Kind::ListEntries,
+];
 
 /// A call and the numbers that it is given; those that its kind does not take are ignored.
 #[derive(Clone, Copy, Debug)]
@@ -39,6 +49,7 @@ impl fmt::Display for Call {
             Kind::Write => write!(f, "write"),
             Kind::Reconcile => write!(f, "reconcile"),
             Kind::List => write!(f, "list"),
+            Kind::ListEntries => write!(f, "list, entries as records"),
         }
     }
 }
@@ -47,7 +58,7 @@ impl Kind {
     /// The refusal in an answer of this kind of call, 0 for acceptance.
     pub fn refusal(self, answer: u64) -> u64 {
         match self {
-            Kind::Score | Kind::List => {
+            Kind::Score | Kind::List | Kind::ListEntries => {
                 let negated = answer.wrapping_neg();
                 if negated <= 12 {
                     negated
@@ -71,6 +82,7 @@ pub struct Memory {
     pub snapshot: Vec<u8>,
     pub theirs: Vec<u8>,
     pub base: Vec<u8>,
+    /// The plain entries; as records, as many as there are whole ones.
     pub entries: Vec<u64>,
     pub scratch: Vec<u8>,
 }
@@ -95,6 +107,21 @@ impl Memory {
             }),
             Kind::List => self.over_numbers(|memory, figures| {
                 version.list(&mut memory.edges, figures, &mut memory.marks, &mut memory.entries, &mut memory.scratch)
+            }),
+            Kind::ListEntries => self.over_numbers(|memory, figures| {
+                let mut entries: Vec<Entry> =
+                    memory.entries.chunks_exact(2).map(|pair| Entry { node: pair[0], figure: pair[1] }).collect();
+                let answer = version.list_entries(
+                    &mut memory.edges,
+                    figures,
+                    &mut memory.marks,
+                    &mut entries,
+                    &mut memory.scratch,
+                );
+                for (pair, entry) in memory.entries.chunks_exact_mut(2).zip(entries) {
+                    pair.copy_from_slice(&[entry.node, entry.figure]);
+                }
+                answer
             }),
         }
     }

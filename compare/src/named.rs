@@ -1,6 +1,6 @@
 //! The description's cases that the proofs leave to a run, each by its name.
 
-use crate::calls::Calls;
+use crate::calls::{Calls, Entry};
 use crate::plain::packing::{edge_bytes, mark_bytes};
 
 /// A state of n nodes that owns its buffers, cleared.
@@ -44,10 +44,27 @@ impl<'a> Board<'a> {
     /// The refusal of a list of k.
     fn list(&mut self, k: usize) -> u64 {
         let n = self.n as usize;
-        let mut figures = vec![0; n];
         let answer =
-            self.version.list(&mut self.edges, &mut figures, &mut self.marks, &mut vec![0; 2 * k], &mut vec![0; n]);
-        if answer > n as u64 {
+            self.version.list(&mut self.edges, &mut vec![0; n], &mut self.marks, &mut vec![0; 2 * k], &mut vec![0; n]);
+        self.refusal(answer)
+    }
+
+    /// The same with the entries as records.
+    fn list_entries(&mut self, k: usize) -> u64 {
+        let n = self.n as usize;
+        let answer = self.version.list_entries(
+            &mut self.edges,
+            &mut vec![0; n],
+            &mut self.marks,
+            &mut vec![Entry::default(); k],
+            &mut vec![0; n],
+        );
+        self.refusal(answer)
+    }
+
+    /// The refusal in the answer of a list.
+    fn refusal(&self, answer: u64) -> u64 {
+        if answer > self.n {
             answer.wrapping_neg()
         } else {
             0
@@ -65,7 +82,7 @@ impl<'a> Board<'a> {
 /// A case's name, and what it finds on a version: the answers, and those that are due.
 type Case = (&'static str, fn(&dyn Calls) -> (Vec<u64>, Vec<u64>));
 
-const CASES: [Case; 9] = [
+const CASES: [Case; 11] = [
     ("32 links are accepted", |version| {
         let mut board = Board::new(version, 34);
         ((1..=32).map(|b| board.add(0, b)).collect(), vec![0; 32])
@@ -90,6 +107,13 @@ const CASES: [Case; 9] = [
     }),
     ("k = n + 1 is refusal 8", |version| {
         ([1, 4, 256].iter().map(|&n| Board::new(version, n).list(n + 1)).collect(), vec![8; 3])
+    }),
+    ("k = n entries as records are accepted", |version| {
+        ([1, 4, 256].iter().map(|&n| Board::new(version, n).list_entries(n)).collect(), vec![0; 3])
+    }),
+    ("none, n + 1 and 1,000 entries as records are refusal 8", |version| {
+        let mut board = Board::new(version, 256);
+        ([0, 257, 258, 1_000].iter().map(|&k| board.list_entries(k)).collect(), vec![8; 4])
     }),
     ("0 and 0 is refusal 5", |version| {
         let mut board = Board::new(version, 4);

@@ -16,7 +16,7 @@ pub struct Tally {
     pub calls: usize,
     pub histories: usize,
     pub singles: usize,
-    refusals: [[usize; 13]; 8],
+    refusals: [[usize; 13]; 9],
 }
 
 impl Tally {
@@ -28,12 +28,12 @@ impl Tally {
 
     /// A line for each kind of call, a column for each refusal number.
     pub fn table(&self) -> String {
-        let mut out = format!("{:<10}", "refusal");
+        let mut out = format!("{:<12}", "refusal");
         for number in 0..=12 {
             out += &format!("{number:>7}");
         }
         for (kind, row) in KINDS.iter().zip(&self.refusals) {
-            out += &format!("\n{:<10}", format!("{kind:?}").to_lowercase());
+            out += &format!("\n{:<12}", format!("{kind:?}").to_lowercase());
             for &times in row {
                 out += &if times == 0 { format!("{:>7}", ".") } else { format!("{times:>7}") };
             }
@@ -47,7 +47,7 @@ impl Tally {
 fn compare(version: &dyn Calls, call: Call, memory: &mut Memory) -> Result<u64, String> {
     let before = memory.clone();
     let answer = memory.run(&BY_PATHS, call);
-    if matches!(call.kind, Kind::Score | Kind::List) {
+    if matches!(call.kind, Kind::Score | Kind::List | Kind::ListEntries) {
         agree(&BY_FORM, call, &before, memory, answer)?;
     }
     agree(version, call, &before, memory, answer)?;

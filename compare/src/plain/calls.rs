@@ -4,7 +4,7 @@ use super::refusal::{refuse_if, Refusal};
 use super::score::Scorer;
 use super::state::{check_node_count, State};
 use super::{clear, edit, list, reconcile, score, snapshot};
-use crate::calls::Calls;
+use crate::calls::{Calls, Entry};
 
 /// The plain version with one of its two ways to score.
 pub struct Plain {
@@ -88,5 +88,16 @@ impl Calls for Plain {
         scratch: &mut [u8],
     ) -> u64 {
         value(list::list(State { edges, figures, marks }, entries, scratch, self.scorer))
+    }
+
+    fn list_entries(
+        &self,
+        edges: &mut [u8],
+        figures: &mut [u64],
+        marks: &mut [u8],
+        entries: &mut [Entry],
+        scratch: &mut [u8],
+    ) -> u64 {
+        value(list::list_entries(State { edges, figures, marks }, entries, scratch, self.scorer))
     }
 }

@@ -1,7 +1,7 @@
 //! The tuned version behind the C functions' signatures.
 
 use super::{edit, list, merge, score, snapshot};
-use crate::calls::Calls;
+use crate::calls::{Calls, Entry};
 
 pub struct Tuned;
 
@@ -44,6 +44,17 @@ impl Calls for Tuned {
         figures: &mut [u64],
         marks: &mut [u8],
         entries: &mut [u64],
+        scratch: &mut [u8],
+    ) -> u64 {
+        list::list(edges, figures, marks, entries, scratch).unwrap_or_else(u64::wrapping_neg)
+    }
+
+    fn list_entries(
+        &self,
+        edges: &mut [u8],
+        figures: &mut [u64],
+        marks: &mut [u8],
+        entries: &mut [Entry],
         scratch: &mut [u8],
     ) -> u64 {
         list::list(edges, figures, marks, entries, scratch).unwrap_or_else(u64::wrapping_neg)

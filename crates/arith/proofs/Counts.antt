@@ -2,8 +2,8 @@
 use mathlib.Core.Bool.{Bool, false, true}
 use mathlib.Core.Logic.{inl, inr}
 use mathlib.Core.Path.{ap, refl, _∙_, _≡_}
-use Prim.Native.Nat.{_<_, suc, zero, ℕ}
-use native.Mathlib.Decide.{ℕ-discrete}
+use Prim.Native.Nat.{_<_, suc, zero, ℕ, _≤_}
+use native.Mathlib.Decide.{decLt, ℕ-discrete}
 use native.Mathlib.Omega.{arith}
 use Rattle.arith.proofs.Sums.{countTo-le}
 use Rattle.arith.proofs.Tests.{test}
@@ -29,4 +29,13 @@ count-full f (suc n) q e l = elim (test (f n)) [
     | no d ↦ count-full f n q (omega (arith, ap bit t)) (omega arith)
   ]
   | inr t ↦ absurd (omega (arith, ap bit t, countTo-le f n))
+]
+
+-- none of those from m on passes
+pub count-skip : (f : ℕ → Bool) (m n : ℕ) → m ≤ n → ((q : ℕ) → m ≤ q → q < n → f q ≡ false) → countTo f n ≡ countTo f m
+unfolding sumTo
+count-skip f m zero h k = let e : zero ≡ m = omega arith in ap (countTo f) e
+count-skip f m (suc n) h k = elim (decLt n m) [
+  | yes l ↦ let e : suc n ≡ m = omega arith in ap (countTo f) e
+  | no l ↦ omega (arith, count-skip f m n (omega arith) (λ q a b. k q a (omega arith)), ap bit (k n (omega arith) (omega arith)))
 ]

@@ -1,6 +1,6 @@
 -- The laws of `sumTo`, of counts, and of lists filled by a loop. Assumes nothing.
 use mathlib.Core.Bool.{Bool, false, or-true, true, true≢false}
-use mathlib.Core.List.{[], List, _∷_}
+use mathlib.Core.List.{_++_, [], List, _∷_}
 use mathlib.Core.Logic.{inl, inr, _≢_, ⊎-elim}
 use mathlib.Core.Path.{ap, ap₂, refl, sym, _∙_, _≡_}
 use Prim.Native.Nat.{_*_, _+_, _<_, suc, zero, zero-le, ℕ, _≤_}
@@ -177,6 +177,12 @@ module _ {A : Type 0} where
     | yes l ↦ List·getD-append (tabulate f n) (f n ∷ []) d i (omega (arith, length-tabulate f n)) ∙ getD-tabulate f n i d l
     | no g ↦ let e : n ≡ i = omega arith in getD-at (tabulate f n) (f n) [] d i (length-tabulate f n ∙ e) ∙ ap f e
   ]
+
+  -- only the elements below n count
+  pub tabulate-ext : (f g : ℕ → A) (n : ℕ) → ((i : ℕ) → i < n → f i ≡ g i) → tabulate f n ≡ tabulate g n
+  unfolding tabulate
+  tabulate-ext f g zero h = refl
+  tabulate-ext f g (suc n) h = ap₂ (λ (l : List A) (x : A). l ++ x ∷ []) (tabulate-ext f g n (λ i k. h i (omega arith))) (h n (le-refl _))
 
   -- a list of n elements is a table of them
   pub tabulate-is : (f : ℕ → A) (d : A) (l : List A) → ((i : ℕ) → i < length l → getD l i d ≡ f i) → l ≡ tabulate f (length l)

@@ -85,7 +85,7 @@ pack-lt p (suc n) = omega (arith, pack-lt p n, pow-suc 2 n, top-le (p n))
     top-le false = omega (arith, zero-mul (2 ^ n))
 
 -- the bits below n are those of the n lowest digits
-bit-mod : (n x k : ℕ) → k < n → bitOf (x % 2 ^ n) k ≡ bitOf x k
+pub bit-mod : (n x k : ℕ) → k < n → bitOf (x % 2 ^ n) k ≡ bitOf x k
 unfolding bitOf digit
 bit-mod n x k h =
     ap (λ (y : ℕ). eqb (y % 2) 1) (ap (λ (m : ℕ). x % 2 ^ m / 2 ^ k) {y = (n - k - 1 + 1) + k} (omega arith) ∙ field x (n - k - 1 + 1) k)

@@ -12,13 +12,13 @@ use Rattle.capi.specs.Calls.{called, ended, fjScore, inBytes, lentLength
 use Rattle.capi.specs.Figures.{bytesOf, figuresOf}
 use Rattle.packed.specs.Pairs.{maxNodes}
 use Rattle.state.proofs.RefusalLaws.{append-refused, fitted-append, fitted-by, passed-length, refusal-none, refused-length}
-use Rattle.state.specs.Clear.{clearCall}
-use Rattle.state.specs.Edit.{addCall, removeCall}
+use Rattle.calls.specs.Clear.{clearCall}
+use Rattle.edits.specs.Edit.{addCall, removeCall}
 use Rattle.state.specs.Outcome.{left, Outcome, outcome, state, stateLengths}
 use Rattle.state.specs.Refusal.{bufferLength, Condition, refusal}
-use Rattle.state.specs.Score.{scoreCall}
+use Rattle.calls.specs.Score.{scoreCall}
 use Rattle.state.specs.State.{State}
-use Rattle.state.specs.declared.score.Scored.{Scored}
+use Rattle.calls.specs.declared.score.Scored.{Scored}
 
 -- refusals 1 and 2
 module _ (n links figures marks : ℕ) {r : ℕ} (e : r ≡ refusal (stateLengths n links marks)) where

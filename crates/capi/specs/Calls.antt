@@ -7,9 +7,9 @@ use lib.ListN.{length}
 use Rattle.state.specs.State.{State}
 use Rattle.state.specs.Refusal.{Condition, refusal, bufferLength}
 use Rattle.state.specs.Outcome.{Outcome, left, state, stateLengths}
-use Rattle.state.specs.Clear.{clearCall}
-use Rattle.state.specs.Edit.{addCall, removeCall}
-use Rattle.state.specs.Score.{scoreCall}
+use Rattle.calls.specs.Clear.{clearCall}
+use Rattle.edits.specs.Edit.{addCall, removeCall}
+use Rattle.calls.specs.Score.{scoreCall}
 use Rattle.capi.specs.Figures.{figuresOf, bytesOf}
 
 -- 1 and 2 of n nodes and the lengths of what is lent

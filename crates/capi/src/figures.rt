@@ -55,7 +55,7 @@ fn put(bytes: &mut [u8], p: usize, x: u64)
 }
 
 // Reads as many figures as there are numbers for them.
-pub fn read(bytes: &[u8], figures: &mut [u64])
+pub(crate) fn read(bytes: &[u8], figures: &mut [u64])
     requires { ⌜ length (now bytes) ≡ 8 * length (now figures) ⌝ }
     ensures { λ _. ⌜ now (figures .exit) ≡ figuresOf (length (now (figures .entry))) (now (bytes .entry)) ⌝ }
 {
@@ -65,7 +65,7 @@ pub fn read(bytes: &[u8], figures: &mut [u64])
 }
 
 // Writes the figures as bytes.
-pub fn write(figures: &[u64], bytes: &mut [u8])
+pub(crate) fn write(figures: &[u64], bytes: &mut [u8])
     requires { ⌜ length (now bytes) ≡ 8 * length (now figures) ⌝ }
     ensures { λ _. ⌜ now (bytes .exit) ≡ bytesOf (now (figures .entry)) ⌝ }
 {

@@ -1,13 +1,13 @@
 // The calls that a C program makes: include/fuortsjam.h declares them. The number of nodes is given, and the figures are bytes.
-pub mod calls;
+pub mod decoded;
 pub mod figures;
 
-use crate::calls::add_in;
-use crate::calls::clear_in;
-use crate::calls::remove_in;
+use crate::decoded::add_in;
+use crate::decoded::clear_in;
+use crate::decoded::remove_in;
+use calls::score::score;
 use packed::edges::MAX_NODES;
 use state::refusal::LENGTH;
-use state::score::score;
 use state::sizes::state_refusal;
 ghost use mathlib.Core.Path.{_≡_};
 ghost use lib.ListN.{replicate};

@@ -20,8 +20,8 @@ use Rattle.merge.specs.Reconcile.{merged, overPairs, overRow, reconcileCall, re
 use Rattle.packed.specs.Bits.{bitAt, bytesOf, withBit}
 use Rattle.packed.specs.Edges.{edge, withEdge}
 use Rattle.packed.specs.Pairs.{pairCount, pairIndex}
-use Rattle.state.specs.Clear.{clearCall, cleared}
-use Rattle.state.specs.Edit.{addCall, added, edited, removeCall, removed, renewed}
+use Rattle.calls.specs.Clear.{clearCall, cleared}
+use Rattle.edits.specs.Edit.{addCall, added, edited, removeCall, removed, renewed}
 use Rattle.state.specs.Marks.{allExact, allStale, stale, staleTo, withMark}
 use Rattle.state.specs.Outcome.{lengths, outcome}
 use Rattle.state.specs.Refusal.{bufferLength, crowdedAfter, crowdedBefore, edgeAbsent, edgePresent, ends, listLength, nodeCount, nodeNumber, refusal, sameNodes, scratchLength, tooMany, touched}

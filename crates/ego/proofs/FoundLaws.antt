@@ -2,9 +2,9 @@
 use mathlib.Core.Bool.{_&&_, Bool, false, true}
 use mathlib.Core.List.{_++_, [], append-nil, List, _∷_}
 use mathlib.Core.Path.{ap, ap₂, refl, subst, subst₂, sym, _∙_, _≡_}
-use Prim.Native.Nat.{_+_, _<_, ℕ, _≤_}
-use native.Mathlib.Decide.{ℕ-discrete}
-use native.Mathlib.Nat.{le-antisymm}
+use Prim.Native.Nat.{_+_, _-_, _<_, zero-le, ℕ, _≤_}
+use native.Mathlib.Decide.{le-ind, ℕ-discrete}
+use native.Mathlib.Nat.{le-antisymm, le-refl}
 use native.Mathlib.Numerals.{add-one}
 use native.Mathlib.Omega.{arith}
 use lib.ListN.{getD, length, length-append, length-replicate, length-set, List·getD-append, replicate, set}
@@ -24,8 +24,10 @@ use Rattle.ego.specs.Score.{score}
 use Rattle.ego.specs.Words.{Ascending, Found, linkAt, scoreAt}
 use Rattle.packed.proofs.EdgeLaws.{edge-comm, edge-self}
 use Rattle.packed.proofs.PairLaws.{room-mono}
+use Rattle.packed.proofs.RowLaws.{passed}
+use Rattle.packed.specs.Bits.{bitAt, FirstFrom}
 use Rattle.packed.specs.Edges.{edge}
-use Rattle.packed.specs.Pairs.{Room}
+use Rattle.packed.specs.Pairs.{pairCount, Room}
 
 pub simple-edges : (es : List ℕ) → Simple (edge es)
 simple-edges es = record { symmetric = edge-comm es; loopless = λ a. edge-self es a a refl }
@@ -80,6 +82,23 @@ module _ {es nodes : List ℕ} {q p count : ℕ} (f : Found es q p nodes count) 
 
   pub found-past : edge es p q ≡ true → limit ≤ count → Found es (q + 1) p nodes (count + 1)
   found-past e full = record { size = f .size; all = pushed e; each = λ i h l. earlier e i (omega arith) l }
+
+-- nodes that are not linked leave what was found
+pub found-until : {es nodes : List ℕ} {q p count : ℕ} (j : ℕ) → Found es q p nodes count → q ≤ j
+    → ((k : ℕ) → q ≤ k → k < j → edge es p k ≡ false) → Found es j p nodes count
+found-until {es} {nodes} {q} {p} {count} j f h g =
+    le-ind (λ m. ((k : ℕ) → q ≤ k → k < m → edge es p k ≡ false) → Found es m p nodes count) (λ _. f)
+    (λ m l ih g. subst (λ m. Found es m p nodes count) (add-one m) (found-skip (ih (λ k a b. g k a (omega arith))) (g m l (omega arith)))) j h g
+
+-- ---- the row of p: what was found below where the walk stands
+
+pub row-none : (es : List ℕ) (p start i : ℕ) → start ≡ pairCount p → FirstFrom (bitAt es) start (start + p) i → Found es (i - start) p (replicate limit 0) 0
+row-none es p start i e f = found-until (i - start) (found-none es p) zero-le (λ k a b. passed es p e (le-refl start) f k (omega arith) b)
+
+pub row-more : {es nodes : List ℕ} {p start i count : ℕ} (j : ℕ) → start ≡ pairCount p → start ≤ i → Found es (i - start + 1) p nodes count
+    → FirstFrom (bitAt es) (i + 1) (start + p) j → Found es (j - start) p nodes count
+row-more {es} {p = p} {start} {i} j e l w f =
+    found-until (j - start) w (omega (arith, f .start)) (λ k a b. passed es p e (omega arith) f k (omega arith) b)
 
 pub found-as : {es nodes nodes′ : List ℕ} {q p count count′ : ℕ} → nodes′ ≡ nodes → count′ ≡ count → Found es q p nodes count → Found es q p nodes′ count′
 found-as {es} {q = q} {p = p} a b f = subst₂ (Found es q p) (sym a) (sym b) f

@@ -3,4 +3,5 @@ pub mod bound;
 pub mod limits;
 pub mod neighbours;
 pub mod score;
+pub mod share;
 pub mod words;

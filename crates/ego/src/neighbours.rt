@@ -1,8 +1,9 @@
 // The neighbours of a node.
 use crate::limits::LIMIT;
-use packed::edges::has;
-ghost use mathlib.Core.Path.{_≡_};
-ghost use Prim.Native.Nat.{_<_};
+use packed::bits::get;
+use packed::bits::next_set;
+use packed::edges::row_start;
+ghost use Prim.Native.Nat.{_+_, _<_};
 ghost use Rattle.packed.specs.Pairs.{Room};
 ghost use Rattle.ego.specs.Words.{Found};
 
@@ -12,20 +13,49 @@ pub struct Neighbours {
     pub count: usize,
 }
 
-// The neighbours of p.
-pub fn neighbours_of(edges: &[u8], n: usize, p: usize) -> Neighbours
-    requires { ⌜ (p < n) × Room n (now edges) ⌝ }
-    ensures { λ r. ⌜ Found (now (edges .entry)) n p (r .nodes) (r .count) ⌝ }
+// The neighbours of p below p.
+fn neighbours_below(edges: &[u8], p: usize) -> Neighbours
+    requires { ⌜ Room (p + 1) (now edges) ⌝ }
+    ensures { λ r. ⌜ Found (now (edges .entry)) p p (r .nodes) (r .count) ⌝ }
 {
+    let start = row_start(p);
     let mut nodes = [0usize; LIMIT];
     let mut count: usize = 0;
-    for q in 0..n {
-        if has(edges, p, q) {
+    let mut i = next_set(edges, start, start + p);
+    while i < start + p {
+        if count < LIMIT {
+            nodes[count] = i - start;
+        }
+        count += 1;
+        i = next_set(edges, i + 1, start + p);
+    }
+    Neighbours { nodes, count }
+}
+
+// The neighbours of p, where `below` has those below p. The bit of p and q + 1 is q bits after that of p and q.
+fn neighbours_above(edges: &[u8], n: usize, p: usize, below: Neighbours) -> Neighbours
+    requires { ⌜ (p < n) × Room n (now edges) × Found (now edges) p p (below .nodes) (below .count) ⌝ }
+    ensures { λ r. ⌜ Found (now (edges .entry)) n p (r .nodes) (r .count) ⌝ }
+{
+    let mut nodes = below.nodes;
+    let mut count = below.count;
+    let mut i = row_start(p + 1) + p;
+    for q in p + 1..n {
+        if get(edges, i) {
             if count < LIMIT {
                 nodes[count] = q;
             }
             count += 1;
         }
+        i += q;
     }
     Neighbours { nodes, count }
+}
+
+// The neighbours of p.
+pub fn neighbours_of(edges: &[u8], n: usize, p: usize) -> Neighbours
+    requires { ⌜ (p < n) × Room n (now edges) ⌝ }
+    ensures { λ r. ⌜ Found (now (edges .entry)) n p (r .nodes) (r .count) ⌝ }
+{
+    neighbours_above(edges, n, p, neighbours_below(edges, p))
 }

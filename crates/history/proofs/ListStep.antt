@@ -1,31 +1,35 @@
--- The list in a history: its refusal is the model's, it is right by the model's scores, and it keeps the invariant. Assumes nothing.
+-- The list in a history, whichever way its entries are lent: its refusal is the model's, it is right by the model's scores, and it keeps the invariant. Assumes nothing.
 use mathlib.Core.Bool.{_&&_, and-comm, Bool, cond, false, not, true}
-use mathlib.Core.List.{_++_, List}
+use mathlib.Core.List.{List}
 use mathlib.Core.Logic.{inl, inr}
-use mathlib.Core.Path.{ap, refl, sym, _∙_, _≡_}
+use mathlib.Core.Path.{ap, refl, subst, sym, _∙_, _≡_}
 use Prim.Native.Nat.{_<_, suc, zero, ℕ, _≤_}
+use native.Mathlib.Decide.{ℕ-discrete}
 use native.Mathlib.Nat.{le-refl}
 use native.Mathlib.Omega.{arith}
-use borrow.Author.Tests.{eqb-false, ltb-false, ne-eqb}
+use borrow.Author.Tests.{eq-eqb, eqb-false, ltb-false, ne-eqb}
 use denote.Laws.{shows}
 use lib.Dec.{eqb, ltb}
 use lib.ListN.{getD, length, take}
 use Rattle.arith.proofs.Tests.{or-false-both, test}
 use Rattle.ego.specs.Graph.{Graph}
 use Rattle.ego.specs.Score.{score}
-use Rattle.history.specs.History.{after, best, Lists}
-use Rattle.state.proofs.AcceptLaws.{lengths-pass, passes}
-use Rattle.state.proofs.SameRefusal.{before-agree}
-use Rattle.state.proofs.Sound.{Sound, sound-score}
+use Rattle.history.specs.History.{after, answer, AsRecords, best, InRow, Lists}
+use Rattle.history.specs.Model.{Call, list, listEntries}
+use Rattle.calls.proofs.AcceptLaws.{lengths-pass, passes}
+use Rattle.edits.proofs.SameRefusal.{before-agree}
+use Rattle.edits.proofs.Sound.{Sound, sound-score}
 use Rattle.state.specs.Marks.{stale}
-use Rattle.state.specs.Outcome.{lengths}
 use Rattle.state.specs.Refusal.{everyone, listLength, refusal, scratchLength}
 use Rattle.state.specs.State.{figure, graph, isStale, size, State}
+use Rattle.listing.proofs.RecordLaws.{call-refused, call-taken, entries-refused, entries-taken, ranOf, refusalOf, runOf}
 use Rattle.topk.proofs.Theorem.{listed-right}
 use Rattle.topk.proofs.TurnLaws.{listed-figures, listed-marks}
-use Rattle.topk.specs.List.{accepted, listCall, listConditions, wanted}
+use Rattle.topk.specs.declared.entries.Entry.{Entry}
+use Rattle.topk.specs.List.{listCall, listConditions, Listed, wanted}
+use Rattle.listing.specs.Records.{entriesCall, Recorded}
 use Rattle.topk.specs.Right.{ranking, Right, worksOut}
-use Rattle.topk.specs.Steps.{at, listed, Progress}
+use Rattle.topk.specs.Steps.{Progress}
 
 -- the ranking depends on the scores below n alone
 ranking-ext : (truth truth′ : ℕ → ℕ) (n : ℕ) → ((p : ℕ) → p < n → truth p ≡ truth′ p) → ranking truth n ≡ ranking truth′ n
@@ -33,44 +37,63 @@ unfolding ranking
 ranking-ext truth truth′ zero h = refl
 ranking-ext truth truth′ (suc n) h = rw (h n (omega arith), ranking-ext truth truth′ n (λ p l. h p (omega arith)))
 
-pub list-accepted : (n : ℕ) (g : Graph) (entries scratch : List ℕ) → refusal (listConditions n g entries scratch) ≡ 0 → (0 < wanted entries) × (wanted entries ≤ n)
+list-accepted : (n : ℕ) (g : Graph) (k : ℕ) (scratch : List ℕ) → refusal (listConditions n g k scratch) ≡ 0 → (0 < k) × (k ≤ n)
 unfolding scratchLength listLength
-list-accepted n g entries scratch e =
+list-accepted n g k scratch e =
     let r = passes (scratchLength n (length scratch)) _ (λ z. omega arith) e in
-    let q = passes (listLength n (wanted entries)) _ (λ z. omega arith) (r .1) in
-    let t = or-false-both (eqb (wanted entries) 0) (ltb n (wanted entries)) (q .0) in
-    let d = eqb-false (wanted entries) 0 (t .0) in
-    (omega arith, ltb-false n (wanted entries) (t .1))
+    let q = passes (listLength n k) _ (λ z. omega arith) (r .1) in
+    let t = or-false-both (eqb k 0) (ltb n k) (q .0) in
+    let d = eqb-false k 0 (t .0) in
+    (omega arith, ltb-false n k (t .1))
 
-module _ (s : State) (g : Graph) (entries scratch : List ℕ) (h : Sound (size s) g s) where
+-- what a call does that is a list of k entries
+pub record Runs (s : State) (k : ℕ) (scratch : List ℕ) (call : Call) (recomputed : ℕ) (holds : List Entry → Type 0) : Type 0 where
+  pub refused : (refusalOf s scratch k ≡ 0 → ⊥) → (answer s call ≡ refusalOf s scratch k) × (after s call ≡ s)
+  pub taken : refusalOf s scratch k ≡ 0 → (answer s call ≡ 0) × (after s call ≡ ranOf s k) × (recomputed ≡ runOf s k .recomputed) × holds (runOf s k .kept)
+
+pub list-runs : (s : State) (entries scratch : List ℕ) → Runs s (wanted entries) scratch (list entries scratch) (listCall s entries scratch .recomputed) (InRow s entries scratch)
+unfolding after answer
+list-runs s entries scratch = record {
+  refused = λ d. let e = call-refused s scratch entries (wanted entries) refl d in (ap (λ (l : Listed). l .refusal) e, ap (λ (l : Listed). l .after) e);
+  taken = λ z.
+      let e = call-taken s scratch entries (wanted entries) refl z in
+      (ap (λ (l : Listed). l .refusal) e, ap (λ (l : Listed). l .after) e, ap (λ (l : Listed). l .recomputed) e, ap (λ (l : Listed). l .entries) e);
+}
+
+pub entries-runs : (s : State) (entries : List Entry) (scratch : List ℕ)
+    → Runs s (length entries) scratch (listEntries entries scratch) (entriesCall s entries scratch .recomputed) (AsRecords s entries scratch)
+unfolding after answer
+entries-runs s entries scratch = record {
+  refused = λ d. let e = entries-refused s scratch entries d in (ap (λ (l : Recorded). l .refusal) e, ap (λ (l : Recorded). l .after) e);
+  taken = λ z.
+      let e = entries-taken s scratch entries z in
+      (ap (λ (l : Recorded). l .refusal) e, ap (λ (l : Recorded). l .after) e, ap (λ (l : Recorded). l .recomputed) e, ap (λ (l : Recorded). l .entries) e);
+}
+
+module _ (s : State) (g : Graph) (k : ℕ) (scratch : List ℕ) (h : Sound (size s) g s) where
   abbrev run : Progress
-  run = listed (score (graph s) (size s)) (wanted entries) (s .figures) (s .marks)
+  run = runOf s k
 
-  same : refusal (lengths s ++ listConditions (size s) (graph s) entries scratch) ≡ refusal (listConditions (size s) g entries scratch)
+  -- the model's refusal
+  abbrev asked : ℕ
+  asked = refusal (listConditions (size s) g k scratch)
+
+  same : refusalOf s scratch k ≡ asked
   same =
-      lengths-pass s (listConditions (size s) (graph s) entries scratch) (h .shows .fits)
+      lengths-pass s (listConditions (size s) (graph s) k scratch) (h .shows .fits)
       ∙ rw (before-agree (size s) (graph s) g everyone everyone (h .shows .links) (λ p l. refl))
 
-  pub list-refused : (refusal (listConditions (size s) g entries scratch) ≡ 0 → ⊥)
-      → (listCall s entries scratch .refusal ≡ refusal (listConditions (size s) g entries scratch)) × (listCall s entries scratch .after ≡ s)
-  unfolding listCall
-  list-refused d = rw (same, ne-eqb _ 0 d) (refl, refl)
-
-  module _ (z : refusal (listConditions (size s) g entries scratch) ≡ 0) where
-    pub list-taken : listCall s entries scratch ≡ accepted s entries scratch
-    unfolding listCall
-    list-taken = rw (same ∙ z)
-
-    right : Right (score (graph s) (size s)) (s .figures) (s .marks) (wanted entries) run
+  module _ (z : asked ≡ 0) where
+    right : Right (score (graph s) (size s)) (s .figures) (s .marks) k run
     right =
-        let k = list-accepted (size s) g entries scratch z in
-        listed-right (score (graph s) (size s)) (wanted entries) (s .figures) (s .marks) (k .0) (k .1) (omega (arith, h .shows .fits .marksFit)) (h .honest)
+        let m = list-accepted (size s) g k scratch z in
+        listed-right (score (graph s) (size s)) k (s .figures) (s .marks) (m .0) (m .1) (omega (arith, h .shows .fits .marksFit)) (h .honest)
 
-    kept-best : run .kept ≡ best s g entries
-    kept-best = right .kept ∙ ap (take (wanted entries)) (ranking-ext (score (graph s) (size s)) (score g (size s)) (size s) (λ p l. sound-score h p l))
+    kept-best : run .kept ≡ best s g k
+    kept-best = right .kept ∙ ap (take k) (ranking-ext (score (graph s) (size s)) (score g (size s)) (size s) (λ p l. sound-score h p l))
 
     abbrev chosen : ℕ → Bool
-    chosen p = worksOut (s .figures) (s .marks) (best s g entries) p
+    chosen p = worksOut (s .figures) (s .marks) (best s g k) p
 
     figure-is : (p : ℕ) → p < size s → getD (run .figures) p 0 ≡ cond (chosen p) (score g (size s) p) (figure s p)
     figure-is p l = rw (kept-best, sound-score h p l) at (right .figuresAre p l)
@@ -78,21 +101,11 @@ module _ (s : State) (g : Graph) (entries scratch : List ℕ) (h : Sound (size s
     mark-is : (p : ℕ) → p < size s → stale (run .marks) p ≡ (isStale s p && not (chosen p))
     mark-is p l = rw kept-best at (right .marksAre p l)
 
-    pub list-lists : Lists s g entries scratch
-    unfolding after accepted
-    list-lists = record {
-      firstK = rw (list-taken, kept-best);
-      worked = rw list-taken (right .recomputed ∙ rw kept-best);
-      settles = λ p l w. rw (after, list-taken) (mark-is p l ∙ rw w (and-comm (isStale s p) false), figure-is p l ∙ rw w);
-      others = λ p l w. rw (after, list-taken) (mark-is p l ∙ rw w (and-comm (isStale s p) true), figure-is p l ∙ rw w);
-    }
-
-    pub list-sound : Sound (size s) g (accepted s entries scratch .after)
-    unfolding accepted
+    list-sound : Sound (size s) g (ranOf s k)
     list-sound = record {
       shows = record {
-        nodes = listed-figures _ (wanted entries) (s .figures) (s .marks);
-        fits = rw (listed-marks (score (graph s) (size s)) (wanted entries) (s .figures) (s .marks)) (h .shows .fits);
+        nodes = listed-figures _ k (s .figures) (s .marks);
+        fits = rw (listed-marks (score (graph s) (size s)) k (s .figures) (s .marks)) (h .shows .fits);
         links = h .shows .links;
       };
       honest = record {
@@ -102,7 +115,7 @@ module _ (s : State) (g : Graph) (entries scratch : List ℕ) (h : Sound (size s
     }
       where
         below : (p : ℕ) → p < length (run .figures) → p < size s
-        below p l = omega (arith, listed-figures (score (graph s) (size s)) (wanted entries) (s .figures) (s .marks))
+        below p l = omega (arith, listed-figures (score (graph s) (size s)) k (s .figures) (s .marks))
 
         settled : (p : ℕ) → p < size s → stale (run .marks) p ≡ false → getD (run .figures) p 0 ≡ score (graph s) (size s) p
         settled p l e = elim (test (chosen p)) [
@@ -115,3 +128,27 @@ module _ (s : State) (g : Graph) (entries scratch : List ℕ) (h : Sound (size s
           | inl w ↦ rw (figure-is p l, w, sound-score h p l) (le-refl _)
           | inr w ↦ rw (figure-is p l, w) (h .honest .above p l)
         ]
+
+  module _ {call : Call} {recomputed : ℕ} {holds : List Entry → Type 0} (r : Runs s k scratch call recomputed holds) where
+    pub runs-answer : answer s call ≡ asked
+    runs-answer = elim (ℕ-discrete asked 0) [
+      | yes z ↦ r .taken (same ∙ z) .0 ∙ sym z
+      | no d ↦ r .refused (λ e. d (sym same ∙ e)) .0 ∙ same
+    ]
+
+    pub runs-sound : Sound (size s) (cond (eqb asked 0) g g) (after s call)
+    runs-sound = elim (ℕ-discrete asked 0) [
+      | yes z ↦ rw (eq-eqb asked 0 z, r .taken (same ∙ z) .1) (list-sound z)
+      | no d ↦ rw (ne-eqb asked 0 d, r .refused (λ e. d (sym same ∙ e)) .1) h
+    ]
+
+    pub runs-lists : answer s call ≡ 0 → Lists s g call k recomputed holds
+    runs-lists e =
+        let z : asked ≡ 0 = sym runs-answer ∙ e in
+        let t = r .taken (same ∙ z) in
+        record {
+          firstK = subst holds (kept-best z) (t .3);
+          worked = t .2 ∙ right z .recomputed ∙ rw (kept-best z);
+          settles = λ p l w. rw (t .1) (mark-is z p l ∙ rw w (and-comm (isStale s p) false), figure-is z p l ∙ rw w);
+          others = λ p l w. rw (t .1) (mark-is z p l ∙ rw w (and-comm (isStale s p) true), figure-is z p l ∙ rw w);
+        }

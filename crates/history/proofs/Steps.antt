@@ -12,24 +12,26 @@ use Rattle.ego.proofs.Agreement.{Agree, agree-sym, agree-trans}
 use Rattle.ego.proofs.WithPair.{pair-agree}
 use Rattle.ego.specs.Change.{withPair}
 use Rattle.ego.specs.Graph.{Graph}
-use Rattle.history.proofs.ListStep.{list-lists, list-refused, list-sound, list-taken}
-use Rattle.history.specs.History.{after, answer, Lists, Untouched}
-use Rattle.history.specs.Model.{add, clear, conditions, list, load, model, modelRefusal, noPairs, reconcile, remove, wouldHold}
+use Rattle.history.proofs.ListStep.{entries-runs, list-runs, runs-answer, runs-lists, runs-sound}
+use Rattle.history.specs.History.{after, answer, Listing, Untouched}
+use Rattle.history.specs.Model.{add, clear, conditions, list, listEntries, load, model, modelRefusal, noPairs, reconcile, remove, wouldHold}
 use Rattle.merge.proofs.MergeLaws.{merged-is, reconcile-agree, reconciled-sound}
 use Rattle.merge.specs.Reconcile.{merged, reconcileCall, reconcileConditions, reconciled}
 use Rattle.packed.specs.Edges.{edge, withEdge}
-use Rattle.state.proofs.AcceptLaws.{add-accepted, lengths-fit, lengths-pass, load-accepted, outcome-accepted, outcome-refusal, outcome-refused, remove-accepted}
-use Rattle.state.proofs.EditLaws.{edit-pair, edited-kept, touched-agree, untouched-end}
+use Rattle.calls.proofs.AcceptLaws.{lengths-fit, lengths-pass, load-accepted, outcome-accepted, outcome-refusal, outcome-refused}
+use Rattle.edits.proofs.NamedLaws.{add-accepted, remove-accepted}
+use Rattle.edits.proofs.EditLaws.{edit-pair, edited-kept, touched-agree, untouched-end}
 use Rattle.state.proofs.RefusalLaws.{Fitted, refusal-none, sized-room}
-use Rattle.state.proofs.SameRefusal.{add-agree, remove-agree}
-use Rattle.state.proofs.Sound.{added-sound, cleared-sound, loaded-sound, marks-room, removed-sound, Sound, sound-agree}
-use Rattle.state.specs.Clear.{clearCall, cleared}
-use Rattle.state.specs.Edit.{addCall, addConditions, added, removeCall, removeConditions, removed}
+use Rattle.edits.proofs.SameRefusal.{add-agree, remove-agree}
+use Rattle.edits.proofs.Sound.{added-sound, cleared-sound, loaded-sound, marks-room, removed-sound, Sound, sound-agree}
+use Rattle.calls.specs.Clear.{clearCall, cleared}
+use Rattle.edits.specs.Edit.{addCall, addConditions, added, removeCall, removeConditions, removed}
 use Rattle.state.specs.Outcome.{lengths, outcome}
 use Rattle.state.specs.Refusal.{Condition, ends, refusal, snapshotEdges, touched}
-use Rattle.state.specs.Snapshot.{loadCall, loaded}
+use Rattle.calls.specs.Snapshot.{loadCall, loaded}
 use Rattle.state.specs.State.{graph, size, State}
-use Rattle.topk.specs.List.{accepted, listConditions}
+use Rattle.topk.specs.declared.entries.Entry.{Entry}
+use Rattle.topk.specs.List.{wanted}
 
 abbrev Fits : State → Type 0
 Fits s = Fitted (size s) (length (s .edges)) (length (s .marks))
@@ -168,19 +170,24 @@ module _ (s : State) (g : Graph) (h : Sound (size s) g s) where
 
   module _ (entries scratch : List ℕ) where
     pub list-answer : answer s (list entries scratch) ≡ modelRefusal (size s) g (list entries scratch)
-    unfolding answer modelRefusal conditions accepted
-    list-answer = elim (ℕ-discrete (refusal (listConditions (size s) g entries scratch)) 0) [
-      | yes z ↦ rw (answer, list-taken s g entries scratch h z) (sym z)
-      | no d ↦ list-refused s g entries scratch h d .0
-    ]
+    unfolding modelRefusal conditions
+    list-answer = runs-answer s g (wanted entries) scratch h (list-runs s entries scratch)
 
     pub list-stays : Sound (size s) (model (size s) g (list entries scratch)) (after s (list entries scratch))
-    unfolding after model modelRefusal conditions wouldHold
-    list-stays = elim (ℕ-discrete (refusal (listConditions (size s) g entries scratch)) 0) [
-      | yes z ↦ rw (after, model, list-taken s g entries scratch h z, eq-eqb _ 0 z) (list-sound s g entries scratch h z)
-      | no d ↦ rw (after, model, list-refused s g entries scratch h d .1, ne-eqb _ 0 d) h
-    ]
+    unfolding model modelRefusal conditions wouldHold
+    list-stays = runs-sound s g (wanted entries) scratch h (list-runs s entries scratch)
 
-    pub list-right : answer s (list entries scratch) ≡ 0 → Lists s g entries scratch
+    pub list-right : Listing s g (list entries scratch)
+    list-right = runs-lists s g (wanted entries) scratch h (list-runs s entries scratch)
+
+  module _ (entries : List Entry) (scratch : List ℕ) where
+    pub entries-answer : answer s (listEntries entries scratch) ≡ modelRefusal (size s) g (listEntries entries scratch)
     unfolding modelRefusal conditions
-    list-right e = list-lists s g entries scratch h (sym list-answer ∙ e)
+    entries-answer = runs-answer s g (length entries) scratch h (entries-runs s entries scratch)
+
+    pub entries-stays : Sound (size s) (model (size s) g (listEntries entries scratch)) (after s (listEntries entries scratch))
+    unfolding model modelRefusal conditions wouldHold
+    entries-stays = runs-sound s g (length entries) scratch h (entries-runs s entries scratch)
+
+    pub entries-right : Listing s g (listEntries entries scratch)
+    entries-right = runs-lists s g (length entries) scratch h (entries-runs s entries scratch)

@@ -4,10 +4,10 @@ use mathlib.Core.List.{[], List, _∷_}
 use mathlib.Core.Path.{sym, _∙_, _≡_}
 use Prim.Native.Nat.{ℕ}
 use Rattle.ego.specs.Graph.{Graph}
-use Rattle.history.proofs.Steps.{add-answer, add-sound, add-untouched, clear-answer, clear-fits, clear-sound, list-answer, list-right, list-stays, load-answer, load-fits, load-sound, reconcile-answer, reconcile-sound, remove-answer, remove-sound, remove-untouched}
+use Rattle.history.proofs.Steps.{add-answer, add-sound, add-untouched, clear-answer, clear-fits, clear-sound, entries-answer, entries-right, entries-stays, list-answer, list-right, list-stays, load-answer, load-fits, load-sound, reconcile-answer, reconcile-sound, remove-answer, remove-sound, remove-untouched}
 use Rattle.history.specs.History.{after, answer, Demand3, Editing, Listing, Promise, Promises, starts}
-use Rattle.history.specs.Model.{add, Call, clear, list, load, model, modelRefusal, noPairs, reconcile, remove}
-use Rattle.state.proofs.Sound.{Sound, sound-above, sound-settled}
+use Rattle.history.specs.Model.{add, Call, clear, list, listEntries, load, model, modelRefusal, noPairs, reconcile, remove}
+use Rattle.edits.proofs.Sound.{Sound, sound-above, sound-settled}
 use Rattle.state.specs.Marks.{stale}
 use Rattle.state.specs.Refusal.{refusal}
 use Rattle.state.specs.State.{size, State}
@@ -39,6 +39,7 @@ step s g (add a b) h = stands s g (add a b) (add-sound s g h a b) (add-answer s 
 step s g (remove a b) h = stands s g (remove a b) (remove-sound s g h a b) (remove-answer s g h a b) tt (remove-untouched s g h a b)
 step s g (reconcile theirs base) h = stands s g (reconcile theirs base) (reconcile-sound s g h theirs base) (reconcile-answer s g h theirs base) tt tt
 step s g (list entries scratch) h = stands s g (list entries scratch) (list-stays s g h entries scratch) (list-answer s g h entries scratch) (list-right s g h entries scratch) tt
+step s g (listEntries entries scratch) h = stands s g (listEntries entries scratch) (entries-stays s g h entries scratch) (entries-answer s g h entries scratch) (entries-right s g h entries scratch) tt
 
 -- the first call, which may find anything in the state
 begin : (s : State) (first : Call) → starts first ≡ true → answer s first ≡ 0 → Stands s noPairs first
@@ -51,6 +52,7 @@ begin s (add a b) e z = absurd (true≢false (sym e))
 begin s (remove a b) e z = absurd (true≢false (sym e))
 begin s (reconcile theirs base) e z = absurd (true≢false (sym e))
 begin s (list entries scratch) e z = absurd (true≢false (sym e))
+begin s (listEntries entries scratch) e z = absurd (true≢false (sym e))
 
 -- the same by the left state's own count of nodes
 recount : {n : ℕ} {g : Graph} {s : State} → Sound n g s → Sound (size s) g s

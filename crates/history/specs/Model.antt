@@ -3,16 +3,19 @@ use mathlib.Core.Bool.{cond, false, true}
 use mathlib.Core.List.{[], List}
 use Prim.Native.Nat.{ℕ}
 use lib.Dec.{eqb}
+use lib.ListN.{length}
 use Rattle.ego.specs.Change.{withPair}
 use Rattle.ego.specs.Graph.{Graph}
-use Rattle.merge.specs.Reconcile.{differ, reconcileConditions}
+use Rattle.merge.specs.Reconcile.{reconcileConditions}
+use Rattle.packed.specs.Bits.{differ}
 use Rattle.packed.specs.Edges.{edge}
-use Rattle.state.specs.Edit.{addConditions, removeConditions}
+use Rattle.edits.specs.Edit.{addConditions, removeConditions}
 use Rattle.state.specs.Refusal.{Condition, refusal, snapshotEdges}
-use Rattle.state.specs.Snapshot.{loadConditions}
-use Rattle.topk.specs.List.{listConditions}
+use Rattle.calls.specs.Snapshot.{loadConditions}
+use Rattle.topk.specs.declared.entries.Entry.{Entry}
+use Rattle.topk.specs.List.{listConditions, wanted}
 
--- What a call brings besides the state: numbers, a sheet, theirs and the original, entries and scratch.
+-- What a call brings besides the state: numbers, a sheet, theirs and the original, entries and scratch. A list is lent its entries as records, or as plain numbers in a row.
 pub data Call : Type 0 where
   clear : Call
   load : List ℕ → Call
@@ -20,6 +23,7 @@ pub data Call : Type 0 where
   remove : ℕ → ℕ → Call
   reconcile : List ℕ → List ℕ → Call
   list : List ℕ → List ℕ → Call
+  listEntries : List Entry → List ℕ → Call
 
 -- The model holds a set of pairs, at first none.
 abbrev pub noPairs : Graph
@@ -34,6 +38,7 @@ wouldHold g (add a b) = withPair g a b true
 wouldHold g (remove a b) = withPair g a b false
 wouldHold g (reconcile theirs base) = λ a b. cond (differ (edge theirs a b) (edge base a b)) (edge theirs a b) (g a b)
 wouldHold g (list entries scratch) = g
+wouldHold g (listEntries entries scratch) = g
 
 -- The conditions of turning back, with the model's pairs as the links (for 12, the pairs it would then hold).
 unfoldable pub conditions : ℕ → Graph → Call → List Condition
@@ -42,7 +47,8 @@ conditions n g (load snapshot) = loadConditions n snapshot
 conditions n g (add a b) = addConditions n g (withPair g a b true) a b
 conditions n g (remove a b) = removeConditions n g a b
 conditions n g (reconcile theirs base) = reconcileConditions n g (wouldHold g (reconcile theirs base)) theirs base
-conditions n g (list entries scratch) = listConditions n g entries scratch
+conditions n g (list entries scratch) = listConditions n g (wanted entries) scratch
+conditions n g (listEntries entries scratch) = listConditions n g (length entries) scratch
 
 -- The refusal number is the first such condition's, otherwise 0; where one applies the model stays.
 unfoldable pub modelRefusal : ℕ → Graph → Call → ℕ

@@ -1,3 +1,4 @@
+pub mod ChangeLaws
 pub mod MergeLaws
 pub mod PairOrder
 pub mod StepLaws

@@ -14,14 +14,16 @@ use Rattle.ego.proofs.WithPair.{pair-is}
 use Rattle.ego.specs.Change.{withPair}
 use Rattle.ego.specs.Graph.{Graph, Simple}
 use Rattle.merge.proofs.PairOrder.{over-pairs, over-same}
-use Rattle.merge.specs.Reconcile.{adding, differ, merged, overPairs, reconcileCall, reconcileConditions, reconciled, removing, takes}
+use Rattle.merge.specs.Reconcile.{adding, merged, overPairs, reconcileCall, reconcileConditions, reconciled, removing, takes}
 use Rattle.merge.specs.Steps.{putIn, takenOut}
+use Rattle.packed.specs.Bits.{differ}
 use Rattle.packed.specs.Edges.{edge}
-use Rattle.state.proofs.AcceptLaws.{lengths-fit, Named, outcome-accepted, outcome-refusal}
+use Rattle.calls.proofs.AcceptLaws.{lengths-fit, outcome-accepted, outcome-refusal}
+use Rattle.edits.proofs.NamedLaws.{Named}
 use Rattle.state.proofs.RefusalLaws.{Fitted}
-use Rattle.state.proofs.SameRefusal.{after-agree, before-agree}
-use Rattle.state.proofs.Sound.{added-shows, added-sound, removed-shows, removed-sound, Shows, shows-agree, shows-symmetric, Sound, sound-agree}
-use Rattle.state.specs.Edit.{added, removed}
+use Rattle.edits.proofs.SameRefusal.{after-agree, before-agree}
+use Rattle.edits.proofs.Sound.{added-shows, added-sound, removed-shows, removed-sound, Shows, shows-agree, shows-symmetric, Sound, sound-agree}
+use Rattle.edits.specs.Edit.{added, removed}
 use Rattle.state.specs.Refusal.{everyone, refusal}
 use Rattle.state.specs.State.{graph, size, State}
 

@@ -30,7 +30,7 @@ module _ (new old : Graph) (i x y : ℕ) where
   unfolding halfway
   is-old h = rw (le-ltb (pairIndex x y) i h)
 
-pair-number : (a b : ℕ) → a < b → pairIndex a b ≡ pairCount b + a
+pub pair-number : (a b : ℕ) → a < b → pairIndex a b ≡ pairCount b + a
 unfolding pairCount
 pair-number a b h = pair-less a b h
 

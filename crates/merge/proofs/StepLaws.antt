@@ -8,12 +8,13 @@ use native.Mathlib.Numerals.{add-one}
 use native.Mathlib.Omega.{arith}
 use lib.ListN.{length}
 use Rattle.ego.specs.Graph.{Graph}
-use Rattle.merge.specs.Reconcile.{differ, merged, overPairs, overRow, takes}
+use Rattle.merge.specs.Reconcile.{overPairs, overRow, takes}
 use Rattle.merge.specs.Steps.{Aligned, putIn, takenOut}
 use Rattle.packed.proofs.PairLaws.{room-within}
+use Rattle.packed.specs.Bits.{differ}
 use Rattle.packed.specs.Pairs.{Room}
 use Rattle.state.proofs.RefusalLaws.{Fitted, passed-length, refused-length}
-use Rattle.state.specs.Edit.{added, Editable, removed}
+use Rattle.edits.specs.Edit.{added, Editable, removed}
 use Rattle.state.specs.Refusal.{bufferLength, Condition, refusal}
 use Rattle.state.specs.Sizes.{edgeBytes}
 use Rattle.state.specs.State.{graph, size, State}
@@ -24,14 +25,6 @@ module _ (mine theirs base : Graph) (a b : ℕ) where
   pub takes-is : {t o : Bool} → theirs a b ≡ t → base a b ≡ o → takes mine theirs base a b ≡ (differ t o && differ t (mine a b))
   unfolding takes
   takes-is e f = rw (e, f)
-
-  pub merged-taken : takes mine theirs base a b ≡ true → merged mine theirs base a b ≡ theirs a b
-  unfolding merged
-  merged-taken e = rw e
-
-  pub merged-kept : takes mine theirs base a b ≡ false → merged mine theirs base a b ≡ mine a b
-  unfolding merged
-  merged-kept e = rw e
 
 -- what is decided of the pair a, b at the state s
 module _ (theirs base : Graph) (a b : ℕ) (s : State) where

@@ -1,19 +1,16 @@
 -- Reconcile: the state is mine; theirs and the original (here the base) come as two more edge buffers. Assumes nothing.
-use mathlib.Core.Bool.{Bool, true, false, cond, not, _&&_}
+use mathlib.Core.Bool.{cond, not, _&&_}
 use mathlib.Core.List.{List, [], _∷_, _++_}
 use Prim.Native.Nat.{ℕ, zero, suc}
 use lib.ListN.{length}
+use Rattle.packed.specs.Bits.{differ}
 use Rattle.packed.specs.Edges.{edge}
 use Rattle.ego.specs.Graph.{Graph}
 use Rattle.state.specs.Sizes.{edgeBytes}
 use Rattle.state.specs.State.{State, size, graph}
 use Rattle.state.specs.Refusal.{Condition, bufferLength, crowdedBefore, crowdedAfter, everyone}
 use Rattle.state.specs.Outcome.{Outcome, outcome, lengths}
-use Rattle.state.specs.Edit.{added, removed}
-
-abbrev pub differ : Bool → Bool → Bool
-differ true y = not y
-differ false y = y
+use Rattle.edits.specs.Edit.{added, removed}
 
 -- The pairs where theirs differs from the original and from mine take theirs.
 unfoldable pub takes : Graph → Graph → Graph → Graph

@@ -1,6 +1,12 @@
--- One pair of a reconcile as the loops decide it, from the state they stand at. Assumes nothing.
+-- One pair of a reconcile as the loops decide it, from the state they stand at, and one byte of the edges that it leaves. Assumes nothing.
+use mathlib.Core.Bool.{cond}
+use mathlib.Core.List.{List}
 use mathlib.Core.Path.{_≡_}
-use Prim.Native.Nat.{ℕ, _≤_}
+use Prim.Native.Nat.{ℕ, _≤_, _<_}
+use lib.ListN.{getD, replicate}
+use Rattle.arith.specs.Digits.{bitOf}
+use Rattle.arith.specs.Sums.{fillTo, packTo}
+use Rattle.packed.specs.Bits.{differ}
 use Rattle.packed.specs.Pairs.{maxNodes}
 use Rattle.ego.specs.Graph.{Graph}
 use Rattle.state.specs.Sizes.{edgeBytes}
@@ -21,3 +27,19 @@ pub record Aligned (n edges marks theirs base : ℕ) : Type 0 where
   pub marksFit : marks ≡ markBytes n
   pub theirsFit : theirs ≡ edgeBytes n
   pub baseFit : base ≡ edgeBytes n
+
+-- theirs has changed no pair of b with a node below it
+abbrev pub SameRow : Graph → Graph → ℕ → Type 0
+SameRow theirs base b = (a : ℕ) → a < b → theirs a b ≡ base a b
+
+-- each bit as theirs where theirs differs from the original, elsewhere as mine
+unfoldable pub mergedByte : ℕ → ℕ → ℕ → ℕ
+mergedByte mine theirs base = packTo (λ j. cond (differ (bitOf theirs j) (bitOf base j)) (bitOf theirs j) (bitOf mine j)) 8
+
+-- the bytes of the edges of 256 nodes
+abbrev pub maxEdgeBytes : ℕ
+maxEdgeBytes = 4080
+
+-- the edges of n nodes after the call, in as many bytes
+unfoldable pub mergedEdges : List ℕ → List ℕ → List ℕ → ℕ → List ℕ
+mergedEdges mine theirs base n = fillTo (λ k. mergedByte (getD mine k 0) (getD theirs k 0) (getD base k 0)) (replicate maxEdgeBytes 0) (edgeBytes n)

@@ -17,7 +17,7 @@ ghost use Rattle.state.specs.Outcome.{left, state};
 ghost use Rattle.merge.specs.Reconcile.{merged, reconcileConditions, reconcileCall};
 
 // The refusals of a reconcile after those of the state's lengths.
-pub fn reconcile_refusal(edges: &[u8], theirs: &[u8], base: &[u8], n: usize) -> u64
+fn reconcile_refusal(edges: &[u8], theirs: &[u8], base: &[u8], n: usize) -> u64
     requires { ⌜ (0 < n) × Room n (now edges) ⌝ }
     ensures { λ r. ⌜ r ≡ refusal (reconcileConditions n (edge (now (edges .entry))) (merged (edge (now (edges .entry))) (edge (now (theirs .entry))) (edge (now (base .entry)))) (now (theirs .entry)) (now (base .entry))) ⌝ }
 {

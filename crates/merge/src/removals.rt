@@ -1,7 +1,9 @@
 // The removals of a reconcile, in bit order.
+use crate::merged::next_changed;
+use crate::merged::row_same;
 use crate::merged::takes;
+use edits::edit::apply_remove;
 use packed::edges::has;
-use state::edit::apply_remove;
 ghost use mathlib.Core.Path.{_≡_};
 ghost use Prim.Native.Nat.{_<_};
 ghost use lib.ListN.{length};
@@ -43,13 +45,18 @@ fn take_out_row(
     requires { ⌜ (b < length (now figures)) × Aligned (length (now figures)) (length (now edges)) (length (now marks)) (length (now theirs)) (length (now base)) ⌝ }
     ensures { λ _. ⌜ state (now (edges .exit)) (now (figures .exit)) (now (marks .exit)) ≡ overRow (takenOut (edge (now (theirs .entry))) (edge (now (base .entry)))) b b (state (now (edges .entry)) (now (figures .entry)) (now (marks .entry))) ⌝ }
 {
-    for a in 0..b {
+    if row_same(theirs, base, b) {
+        return;
+    }
+    let mut a = next_changed(theirs, base, 0, b);
+    while a < b {
         take_out(edges, figures, marks, theirs, base, a, b);
+        a = next_changed(theirs, base, a + 1, b);
     }
 }
 
 // The removals at every pair.
-pub fn take_out_all(
+pub(crate) fn take_out_all(
     edges: &mut [u8],
     figures: &mut [u64],
     marks: &mut [u8],

@@ -1,3 +1,8 @@
 pub mod BitLaws
+pub mod DegreeLaws
 pub mod EdgeLaws
+pub mod FirstLaws
 pub mod PairLaws
+pub mod RowLaws
+pub mod RunLaws
+pub mod WindowLaws

@@ -1,25 +1,28 @@
--- How the list that the port answers ends. Assumes nothing.
+-- How a list that the port answers ends. Assumes nothing.
 use mathlib.Core.List.{List}
 use mathlib.Core.Path.{ap, _∙_, _≡_}
 use Prim.Native.Nat.{_-_, _^_, ℕ}
 use borrow.Author.Tests.{ne-eqb}
-use Rattle.port.specs.Port.{answered, ported, portList}
+use Rattle.port.specs.Port.{answered, answeredEntries, oneNumber, ported, portedEntries, portEntries, portList}
 use Rattle.state.specs.State.{State}
+use Rattle.topk.specs.declared.entries.Entry.{Entry}
 use Rattle.topk.specs.List.{listCall, Listed}
+use Rattle.listing.specs.Records.{entriesCall, Recorded}
 
-answered-refused : (l : Listed) → (l .refusal ≡ 0 → ⊥) → ported (2 ^ 64 - l .refusal) (l .after) (l .entries) (l .scratch) ≡ answered l
-unfolding answered
-answered-refused l d = rw (ne-eqb (l .refusal) 0 d)
+pub number-refused : (refusal recomputed : ℕ) → (refusal ≡ 0 → ⊥) → 2 ^ 64 - refusal ≡ oneNumber refusal recomputed
+unfolding oneNumber
+number-refused refusal recomputed d = rw (ne-eqb refusal 0 d)
 
-answered-accepted : (l : Listed) → l .refusal ≡ 0 → ported (l .recomputed) (l .after) (l .entries) (l .scratch) ≡ answered l
-unfolding answered
-answered-accepted l z = rw z
+pub number-accepted : (refusal recomputed : ℕ) → refusal ≡ 0 → recomputed ≡ oneNumber refusal recomputed
+unfolding oneNumber
+number-accepted refusal recomputed z = rw z
 
-module _ (s : State) (entries scratch : List ℕ) {l : Listed} (e : l ≡ listCall s entries scratch) where
-  pub port-refused : {r : ℕ} → (l .refusal ≡ 0 → ⊥) → r ≡ 2 ^ 64 - l .refusal → ported r (l .after) (l .entries) (l .scratch) ≡ portList s entries scratch
-  unfolding portList
-  port-refused d q = ap (λ (r : ℕ). ported r (l .after) (l .entries) (l .scratch)) q ∙ answered-refused l d ∙ ap answered e
+pub port-list : (s : State) (entries scratch : List ℕ) {l : Listed} {r : ℕ} → l ≡ listCall s entries scratch → r ≡ oneNumber (l .refusal) (l .recomputed)
+    → ported r (l .after) (l .entries) (l .scratch) ≡ portList s entries scratch
+unfolding portList
+port-list s entries scratch {l} e q = ap (λ (r : ℕ). ported r (l .after) (l .entries) (l .scratch)) q ∙ ap answered e
 
-  pub port-accepted : l .refusal ≡ 0 → ported (l .recomputed) (l .after) (l .entries) (l .scratch) ≡ portList s entries scratch
-  unfolding portList
-  port-accepted z = answered-accepted l z ∙ ap answered e
+pub port-entries : (s : State) (entries : List Entry) (scratch : List ℕ) {l : Recorded} {r : ℕ} → l ≡ entriesCall s entries scratch → r ≡ oneNumber (l .refusal) (l .recomputed)
+    → portedEntries r (l .after) (l .entries) (l .scratch) ≡ portEntries s entries scratch
+unfolding portEntries
+port-entries s entries scratch {l} e q = ap (λ (r : ℕ). portedEntries r (l .after) (l .entries) (l .scratch)) q ∙ ap answeredEntries e

@@ -1,2 +1,2 @@
--- A definition of the list as the port answers it.
+-- Definitions of the list as the port answers it.
 pub mod Port

@@ -1,13 +1,16 @@
 // For comparison with other programs only: the calls that the C interface leaves out, with figures as 64-bit numbers.
+use calls::snapshot::load;
+use calls::snapshot::write;
+use listing::records::list_entries;
 use merge::reconcile::reconcile;
-use state::snapshot::load;
-use state::snapshot::write;
+use topk::entries::Entry;
+use topk::list::Answer;
 use topk::list::list;
 ghost use mathlib.Core.Path.{_≡_};
 ghost use Rattle.merge.specs.Reconcile.{reconcileCall};
 ghost use Rattle.state.specs.Outcome.{left, state};
-ghost use Rattle.state.specs.Snapshot.{loadCall, written, writeCall};
-ghost use Rattle.port.specs.Port.{ported, portList};
+ghost use Rattle.calls.specs.Snapshot.{loadCall, written, writeCall};
+ghost use Rattle.port.specs.Port.{oneNumber, ported, portList, portedEntries, portEntries};
 
 // Loads a sheet.
 #[no_mangle]
@@ -35,7 +38,18 @@ pub extern "C" fn fj_port_write(
     write(links, figures, marks, sheet)
 }
 
-// The list. Answers how many posts were worked out, or 2^64 less the refusal number.
+// A list's answer as one number: how many posts were worked out, or 2^64 less the refusal number.
+fn one_number(answer: Answer) -> u64
+    ensures { λ r. ⌜ r ≡ oneNumber (answer .refusal) (answer .recomputed) ⌝ }
+{
+    let refusal = answer.refusal;
+    if refusal != 0 {
+        return u64::MAX - (refusal - 1);
+    }
+    answer.recomputed
+}
+
+// The list over plain numbers.
 #[no_mangle]
 pub extern "C" fn fj_port_list(
     links: &[u8],
@@ -46,12 +60,21 @@ pub extern "C" fn fj_port_list(
 ) -> u64
     ensures { λ r. ⌜ ported r (state (now (links .entry)) (now (figures .exit)) (now (marks .exit))) (now (entries .exit)) (now (scratch .exit)) ≡ portList (state (now (links .entry)) (now (figures .entry)) (now (marks .entry))) (now (entries .entry)) (now (scratch .entry)) ⌝ }
 {
-    let answer = list(links, figures, marks, entries, scratch);
-    let refusal = answer.refusal;
-    if refusal != 0 {
-        return u64::MAX - (refusal - 1);
-    }
-    answer.recomputed
+    one_number(list(links, figures, marks, entries, scratch))
+}
+
+// The list over entries as records.
+#[no_mangle]
+pub extern "C" fn fj_port_list_entries(
+    links: &[u8],
+    figures: &mut [u64],
+    marks: &mut [u8],
+    entries: &mut [Entry],
+    scratch: &mut [u8],
+) -> u64
+    ensures { λ r. ⌜ portedEntries r (state (now (links .entry)) (now (figures .exit)) (now (marks .exit))) (now (entries .exit)) (now (scratch .exit)) ≡ portEntries (state (now (links .entry)) (now (figures .entry)) (now (marks .entry))) (now (entries .entry)) (now (scratch .entry)) ⌝ }
+{
+    one_number(list_entries(links, figures, marks, entries, scratch))
 }
 
 // Brings another editor's changes into a board.

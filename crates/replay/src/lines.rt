@@ -50,7 +50,7 @@ fn send(line: [u8; LINE], at: usize)
 }
 
 // Writes a line that is a word.
-pub fn word(text: &[u8])
+pub(crate) fn word(text: &[u8])
     requires { ⌜ length (now text) ≤ maxWord ⌝ }
 {
     let mut line = [0u8; LINE];
@@ -59,7 +59,7 @@ pub fn word(text: &[u8])
 }
 
 // Writes a line of a word and a number.
-pub fn one(text: &[u8], x: u64)
+pub(crate) fn one(text: &[u8], x: u64)
     requires { ⌜ length (now text) ≤ maxWord ⌝ }
 {
     let mut line = [0u8; LINE];
@@ -69,7 +69,7 @@ pub fn one(text: &[u8], x: u64)
 }
 
 // Writes a line of two numbers.
-pub fn two(x: u64, y: u64) {
+pub(crate) fn two(x: u64, y: u64) {
     let mut line = [0u8; LINE];
     let first = append_number(&mut line, 0, x);
     let at = append_field(&mut line, first, y);
@@ -77,7 +77,7 @@ pub fn two(x: u64, y: u64) {
 }
 
 // Writes a line of a word and three numbers.
-pub fn three(text: &[u8], x: u64, y: u64, z: u64)
+pub(crate) fn three(text: &[u8], x: u64, y: u64, z: u64)
     requires { ⌜ length (now text) ≤ maxWord ⌝ }
 {
     let mut line = [0u8; LINE];

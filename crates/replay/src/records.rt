@@ -1,13 +1,13 @@
 // The records of a script, each done on a state and answered by its lines.
 use crate::lines;
 use crate::space;
-use script::reader::FIRST_RECORD;
-use script::reader::MAX_BYTES;
-use script::reader::Step;
-use script::reader::next;
-use state::clear::clear;
-use state::edit::add;
-use state::edit::remove;
+use calls::clear::clear;
+use edits::edit::add;
+use edits::edit::remove;
+use script::reader::read;
+use script::step::FIRST_RECORD;
+use script::step::Item;
+use script::step::MAX_BYTES;
 use state::sizes::edge_bytes;
 use state::sizes::mark_bytes;
 use topk::list::list;
@@ -52,7 +52,7 @@ fn do_list(edges: &[u8], figures: &mut [u64], marks: &mut [u8], k: usize)
     }
 }
 
-// Does the record at a position and answers the position past it. The end and what is malformed keep the position.
+// Does what the script's reader yields at a position, and answers the position that the reader is left at.
 fn do_record(
     script: &[u8],
     at: usize,
@@ -63,28 +63,16 @@ fn do_record(
     requires { ⌜ at ≤ 8 * length (now script) ⌝ }
     ensures { λ r. ⌜ (at ≤ r) × (r ≤ 8 * length (now (script .entry))) ⌝ }
 {
-    match next(script, at) {
-        Step::Add { a, b, next } => {
-            do_add(edges, figures, marks, a, b);
-            next
-        }
-        Step::Remove { a, b, next } => {
-            do_remove(edges, figures, marks, a, b);
-            next
-        }
-        Step::ListFirst { k, next } => {
-            do_list(edges, figures, marks, k);
-            next
-        }
-        Step::End => {
-            lines::word(b"end");
-            at
-        }
-        Step::Malformed => {
-            lines::word(b"bad");
-            at
-        }
+    let step = read(script, at);
+    let item = step.item;
+    match item {
+        Item::Add { a, b } => do_add(edges, figures, marks, a, b),
+        Item::Remove { a, b } => do_remove(edges, figures, marks, a, b),
+        Item::ListFirst { k } => do_list(edges, figures, marks, k),
+        Item::End => lines::word(b"end"),
+        Item::Malformed => lines::word(b"bad"),
     }
+    step.at
 }
 
 // Does the records of a script in order, to its end or to what is malformed.
@@ -127,7 +115,7 @@ fn on_nodes(script: &[u8], n: usize)
 }
 
 // Replays a script: the number of nodes, the lines of its records, and whether it ends or is malformed.
-pub fn replay(script: &[u8]) {
+pub(crate) fn replay(script: &[u8]) {
     if script.len() == 0 {
         lines::word(b"bad");
         return;

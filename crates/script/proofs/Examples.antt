@@ -1,14 +1,18 @@
 -- 01's listing, read record by record. Assumes nothing.
 use mathlib.Core.List.{List, [], _∷_}
-use mathlib.Core.Path.{refl, _≡_}
-use Prim.Native.Nat.{ℕ}
+use mathlib.Core.Path.{ap, refl, _≡_}
+use Prim.Native.Nat.{suc, zero, ℕ}
+use denote.Ref.{RefT, now}
 use Rattle.arith.specs.Digits.{bitOf, digit}
 use Rattle.arith.specs.Sums.{anyTo}
 use Rattle.packed.specs.Bits.{bitAt}
 use Rattle.script.specs.Field.{fieldAt}
-use Rattle.script.specs.Record.{bitsLeft, endsAt, stepAt}
-use Rattle.script.specs.declared.reader.Step.{Step}
-use Rattle.script.specs.declared.reader.Step.the-variants.{Add, End, ListFirst, Malformed}
+use Rattle.script.specs.Moves.{after, start, yields}
+use Rattle.script.specs.Record.{bitsLeft, endsAt, itemAt, pastItem, stepAt}
+use Rattle.script.specs.declared.reader.Reader.{Reader}
+use Rattle.script.specs.declared.step.Item.{Item}
+use Rattle.script.specs.declared.step.Item.the-variants.{Add, End, ListFirst, Malformed}
+use Rattle.script.specs.declared.step.Step.{Step}
 
 -- 03 40 00 50 00 24 00 0F 01 00 00 00 00, in hexadecimal
 abbrev listing : List ℕ
@@ -18,6 +22,20 @@ listing = 3 ∷ 64 ∷ 0 ∷ 80 ∷ 0 ∷ 36 ∷ 0 ∷ 15 ∷ 1 ∷ 0 ∷ 0 ∷ 
 abbrev steps : List Step
 steps = stepAt listing 8 ∷ stepAt listing 26 ∷ stepAt listing 44 ∷ stepAt listing 62 ∷ stepAt listing 80 ∷ stepAt listing 98 ∷ []
 
-pub listing-steps : steps ≡ (Add 0 1 26 ∷ Add 0 2 44 ∷ Add 0 3 62 ∷ ListFirst 2 80 ∷ End ∷ Malformed ∷ [])
-unfolding anyTo bitAt bitOf bitsLeft digit endsAt fieldAt stepAt
+-- a step by what is yielded and the position that the reader is left at
+abbrev by : Item → ℕ → Step
+by item at = record { item = item; at = at }
+
+pub listing-steps : steps ≡ (by (Add 0 1) 26 ∷ by (Add 0 2) 44 ∷ by (Add 0 3) 62 ∷ by (ListFirst 2) 80 ∷ by End 80 ∷ by Malformed 98 ∷ [])
+unfolding anyTo bitAt bitOf bitsLeft digit endsAt fieldAt itemAt pastItem stepAt
 listing-steps = refl
+
+-- what a reader yields, time after time
+abbrev run : ℕ → Reader → List Item
+run zero r = []
+run (suc k) r = yields r ∷ run k (after r)
+
+-- a reader over the listing, from its start; at the end it stays
+pub listing-read : (lent : RefT (List ℕ)) → now lent ≡ listing → run 6 (start lent) ≡ (Add 0 1 ∷ Add 0 2 ∷ Add 0 3 ∷ ListFirst 2 ∷ End ∷ End ∷ [])
+unfolding anyTo bitAt bitOf bitsLeft digit endsAt fieldAt itemAt pastItem stepAt
+listing-read lent e = ap (λ (s : List ℕ). run 6 (start (record { ptr = lent .ptr; name = lent .name; now = s }))) e

@@ -1,22 +1,23 @@
 -- The reader's cases carry 01's numbers. Assumes nothing.
 use mathlib.Core.Bool.{Bool, cond, false, not, true, _||_}
 use mathlib.Core.List.{List}
-use mathlib.Core.Logic.{inl, inr}
-use mathlib.Core.Path.{ap, refl, _∙_, _≡_}
-use Prim.Native.Nat.{_*_, _+_, _-_, _<_, suc, zero, ℕ, _≤_}
+use mathlib.Core.Logic.{inl, inr, _⊎_}
+use mathlib.Core.Path.{ap, refl, sym, _∙_, _≡_}
+use Prim.Native.Nat.{_*_, _+_, _-_, _<_, _^_, suc, zero, ℕ, _≤_}
 use native.Mathlib.Decide.{decLt}
 use native.Mathlib.Omega.{arith}
-use borrow.Author.Tests.{eqb-true, le-leb, le-ltb, leb-true, lt-leb, lt-ltb, ne-eqb}
+use borrow.Author.Tests.{eqb-true, le-leb, le-ltb, lt-leb, lt-ltb}
 use lib.Dec.{eqb}
 use lib.ListN.{length}
 use Rattle.arith.proofs.Tests.{and-true, test}
 use Rattle.script.proofs.FieldLaws.{field-lt, field-small}
-use Rattle.script.proofs.RecordLaws.{left-room}
+use Rattle.script.proofs.RecordLaws.{item-few, left-room}
 use Rattle.script.specs.Limits.{maxBytes, recordBits}
 use Rattle.script.specs.Reading.{Reading, readingAt, readingOf, wellFormed}
-use Rattle.script.specs.Record.{aAt, bAt, bitsLeft, endsAt, kindAt, stepAt}
-use Rattle.script.specs.declared.reader.Step.{Step}
-use Rattle.script.specs.declared.reader.Step.the-variants.{Add, End, ListFirst, Malformed, Remove}
+use Rattle.script.specs.Record.{aAt, bAt, bitsLeft, endsAt, itemAt, kindAt, pastItem, stepAt}
+use Rattle.script.specs.declared.step.Step.{Step}
+use Rattle.script.specs.declared.step.Item.{Item}
+use Rattle.script.specs.declared.step.Item.the-variants.{Add, End, ListFirst, Malformed, Remove}
 
 -- where an end ends the script, its numbers are 0
 ends-zero : (script : List ℕ) (at : ℕ) → endsAt script at ≡ true → (aAt script at ≡ 0) × (bAt script at ≡ 0)
@@ -25,13 +26,17 @@ ends-zero script at e =
     let r = and-true _ _ e in
     (eqb-true _ _ (r .0), eqb-true _ _ (and-true _ _ (r .1) .0))
 
+-- the numbers of what is yielded at a position
+abbrev numbers : Item → ℕ → Reading
+numbers item at = readingOf item (pastItem item at)
+
 -- by the four kinds of a record
 kinds : (kind a b at : ℕ) (ends : Bool) → kind < 4 → (ends ≡ true → (a ≡ 0) × (b ≡ 0)) →
-    readingOf at (cond (eqb kind 1) (Add a b (at + 18)) (cond (eqb kind 2) (Remove a b (at + 18)) (cond (eqb kind 3) (cond (eqb b 0) (ListFirst (a + 1) (at + 18)) Malformed) (cond ends End Malformed))))
+    numbers (cond (eqb kind 1) (Add a b) (cond (eqb kind 2) (Remove a b) (cond (eqb kind 3) (cond (eqb b 0) (ListFirst (a + 1)) Malformed) (cond ends End Malformed)))) at
     ≡ cond (cond (eqb kind 0) ends (not (eqb kind 3) || eqb b 0))
     (record { refusal = 0; kind = kind; a = a; b = b; position = cond (eqb kind 0) at (at + 18) })
     (record { refusal = 9; kind = 0; a = 0; b = 0; position = at })
-unfolding readingOf
+unfolding pastItem readingOf
 kinds zero a b at true h e = rw (e refl .0, e refl .1)
 kinds zero a b at false h e = refl
 kinds (suc zero) a b at ends h e = refl
@@ -42,8 +47,8 @@ kinds (suc (suc (suc zero))) a b at ends h e = elim (test (eqb b 0)) [
 ]
 kinds (suc (suc (suc (suc k)))) a b at ends h e = absurd (omega arith)
 
-pub reading-is : (script : List ℕ) (at : ℕ) → readingOf at (stepAt script at) ≡ readingAt script at
-unfolding readingAt readingOf stepAt wellFormed
+reading-is : (script : List ℕ) (at : ℕ) → numbers (itemAt script at) at ≡ readingAt script at
+unfolding itemAt pastItem readingAt readingOf wellFormed
 reading-is script at = elim (decLt (bitsLeft script at) recordBits) [
   | yes h ↦ rw (lt-ltb (bitsLeft script at) recordBits h, lt-leb recordBits (bitsLeft script at) h)
   | no h ↦ let l : recordBits ≤ bitsLeft script at = omega arith in
@@ -51,45 +56,66 @@ reading-is script at = elim (decLt (bitsLeft script at) recordBits) [
       (kinds (kindAt script at) (aAt script at) (bAt script at) at (endsAt script at) (field-lt script at 2) (ends-zero script at))
 ]
 
+-- a step from its parts
+pub step-made : (script : List ℕ) (at : ℕ) {item : Item} {next : ℕ} → item ≡ itemAt script at → next ≡ pastItem item at → record { item = item; at = next } ≡ stepAt script at
+unfolding stepAt
+step-made script at {item} e p = ap (λ (x : ℕ). record { item = item; at = x }) p ∙ ap (λ (x : Item). record { item = x; at = pastItem x at }) e
+
 -- both promises of the reader from the first
-pub answered : (script : List ℕ) (at : ℕ) {step : Step} → step ≡ stepAt script at → (step ≡ stepAt script at) × (readingOf at step ≡ readingAt script at)
-answered script at e = (e, ap (readingOf at) e ∙ reading-is script at)
+pub answered : (script : List ℕ) (at : ℕ) {step : Step} → step ≡ stepAt script at → (step ≡ stepAt script at) × (readingOf (step .item) (step .at) ≡ readingAt script at)
+unfolding stepAt
+answered script at e = (e, ap (λ (s : Step). readingOf (s .item) (s .at)) e ∙ reading-is script at)
 
--- ---- what a caller knows of a record
+-- ---- what a caller knows of a step
 
--- the reader moved past the record at a position, and is within the script
-pub record Moved (script : List ℕ) (at next : ℕ) : Type 0 where
-  pub past : next ≡ at + recordBits
-  pub within : next ≤ 8 * length script
-  pub few : length script ≤ maxBytes
+-- no more than a record is passed
+past-bounds : (item : Item) (at : ℕ) → (at ≤ pastItem item at) × (pastItem item at ≤ at + recordBits)
+unfolding pastItem
+past-bounds (Add a b) at = (omega arith, omega arith)
+past-bounds (Remove a b) at = (omega arith, omega arith)
+past-bounds (ListFirst k) at = (omega arith, omega arith)
+past-bounds End at = (omega arith, omega arith)
+past-bounds Malformed at = (omega arith, omega arith)
 
 module _ (script : List ℕ) (at : ℕ) where
-  moved : (r : Reading) → r ≡ readingAt script at → (r .kind ≡ 0 → ⊥) → Moved script at (r .position) × (r .a < 256) × (r .b < 256)
-  unfolding readingAt wellFormed
-  moved r e d = elim (test (wellFormed script at)) [
-    | inl t ↦
-        let q = rw t at e in
-        let k : r .kind ≡ kindAt script at = ap (λ (x : Reading). x .kind) q in
-        let p : r .position ≡ at + recordBits = ap (λ (x : Reading). x .position) q ∙ rw (ne-eqb (kindAt script at) 0 (λ z. d (k ∙ z))) in
-        let enough = leb-true recordBits (bitsLeft script at) (and-true _ _ t .0) in
-        let room = left-room script at (bitsLeft script at) refl enough in (
-          record { past = p; within = omega (arith, p, room .1, enough); few = room .0 },
-          omega (arith, ap (λ (x : Reading). x .a) q, field-small script (at + 2) 8 (omega arith)),
-          omega (arith, ap (λ (x : Reading). x .b) q, field-small script (at + 10) 8 (omega arith)),
-        )
-    | inr t ↦ absurd (d (ap (λ (x : Reading). x .kind) (rw t at e)))
+  -- a record that is passed lies within the script
+  past-room : (pastItem (itemAt script at) at ≡ at) ⊎ ((pastItem (itemAt script at) at ≤ 8 * length script) × (length script ≤ maxBytes))
+  unfolding pastItem
+  past-room = elim (decLt (bitsLeft script at) recordBits) [
+    | yes h ↦ inl (ap (λ (x : Item). pastItem x at) (sym (item-few script at (bitsLeft script at) refl h)))
+    | no h ↦
+        let l : recordBits ≤ bitsLeft script at = omega arith in
+        let r = left-room script at (bitsLeft script at) refl l in
+        inr (omega (arith, past-bounds (itemAt script at) at .1, r .1), r .0)
   ]
 
-  pub add-moved : {a b next : ℕ} → Add a b next ≡ stepAt script at → Moved script at next × (a < 256) × (b < 256)
-  unfolding readingOf
-  add-moved {a} {b} {next} e = moved (readingOf at (Add a b next)) (answered script at e .1) (λ z. omega arith)
+  pub past-fits : at < 2 ^ 64 → pastItem (itemAt script at) at < 2 ^ 64
+  past-fits h = elim past-room [
+    | inl e ↦ omega (arith, e)
+    | inr r ↦ omega (arith, r .0, r .1)
+  ]
 
-  pub remove-moved : {a b next : ℕ} → Remove a b next ≡ stepAt script at → Moved script at next × (a < 256) × (b < 256)
-  unfolding readingOf
-  remove-moved {a} {b} {next} e = moved (readingOf at (Remove a b next)) (answered script at e .1) (λ z. omega arith)
+  -- from within the script the reader comes to within the script, and not back
+  pub step-within : {step : Step} → step ≡ stepAt script at → at ≤ 8 * length script → (at ≤ step .at) × (step .at ≤ 8 * length script)
+  unfolding stepAt
+  step-within e h =
+      let p = ap (λ (x : Step). x .at) e in (
+        omega (arith, p, past-bounds (itemAt script at) at .0),
+        elim past-room [
+          | inl z ↦ omega (arith, p, z)
+          | inr r ↦ omega (arith, p, r .0)
+        ],
+      )
 
-  pub list-moved : {k next : ℕ} → ListFirst k next ≡ stepAt script at → Moved script at next × (k ≤ 256)
+  reading-a : readingAt script at .a < 256
+  unfolding readingAt
+  reading-a = elim (test (wellFormed script at)) [
+    | inl t ↦ rw t (field-small script (at + 2) 8 (omega arith))
+    | inr t ↦ rw t (omega arith)
+  ]
+
+  pub list-small : {step : Step} {k : ℕ} → step ≡ stepAt script at → ListFirst k ≡ step .item → k ≤ 256
   unfolding readingOf
-  list-moved {k} {next} e =
-      let m = moved (readingOf at (ListFirst k next)) (answered script at e .1) (λ z. omega arith) in
-      (m .0, omega (arith, m .1))
+  list-small {step} {k} e l =
+      let m : k - 1 ≡ readingAt script at .a = ap (λ (x : Item). readingOf x (step .at) .a) l ∙ ap (λ (x : Reading). x .a) (answered script at e .1) in
+      omega (arith, m, reading-a)

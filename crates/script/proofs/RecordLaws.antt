@@ -11,9 +11,8 @@ use lib.ListN.{length}
 use Rattle.script.proofs.FieldLaws.{field-zero}
 use Rattle.script.specs.Field.{fieldAt}
 use Rattle.script.specs.Limits.{maxBytes, recordBits}
-use Rattle.script.specs.Record.{aAt, bAt, bitsLeft, endsAt, kindAt, stepAt}
-use Rattle.script.specs.declared.reader.Step.{Step}
-use Rattle.script.specs.declared.reader.Step.the-variants.{Add, End, ListFirst, Malformed, Remove}
+use Rattle.script.specs.Record.{aAt, bAt, bitsLeft, endsAt, itemAt, kindAt}
+use Rattle.script.specs.declared.step.Item.the-variants.{Add, End, ListFirst, Malformed, Remove}
 
 -- what the reader has read at a position: enough bits are left, and the record's three numbers
 pub record Found (script : List ℕ) (at left kind a b : ℕ) : Type 0 where
@@ -64,35 +63,35 @@ module _ (script : List ℕ) (at : ℕ) where
 
   -- ---- the records
 
-  pub step-few : (left : ℕ) → left ≡ bitsLeft script at → left < recordBits → Malformed ≡ stepAt script at
-  unfolding stepAt
-  step-few left e h = rw (← e, lt-ltb left recordBits h)
+  pub item-few : (left : ℕ) → left ≡ bitsLeft script at → left < recordBits → Malformed ≡ itemAt script at
+  unfolding itemAt
+  item-few left e h = rw (← e, lt-ltb left recordBits h)
 
   module _ {left kind a b : ℕ} (f : Found script at left kind a b) where
-    pub step-add : kind ≡ 1 → Add a b (at + recordBits) ≡ stepAt script at
-    unfolding stepAt
-    step-add k = rw (← f .bits, ← f .kinds, ← f .first, ← f .second, le-ltb left recordBits (f .enough), eq-eqb kind 1 k)
+    pub item-add : kind ≡ 1 → Add a b ≡ itemAt script at
+    unfolding itemAt
+    item-add k = rw (← f .bits, ← f .kinds, ← f .first, ← f .second, le-ltb left recordBits (f .enough), eq-eqb kind 1 k)
 
-    pub step-remove : (kind ≡ 1 → ⊥) → kind ≡ 2 → Remove a b (at + recordBits) ≡ stepAt script at
-    unfolding stepAt
-    step-remove d1 k = rw (← f .bits, ← f .kinds, ← f .first, ← f .second, le-ltb left recordBits (f .enough), ne-eqb kind 1 d1, eq-eqb kind 2 k)
+    pub item-remove : (kind ≡ 1 → ⊥) → kind ≡ 2 → Remove a b ≡ itemAt script at
+    unfolding itemAt
+    item-remove d1 k = rw (← f .bits, ← f .kinds, ← f .first, ← f .second, le-ltb left recordBits (f .enough), ne-eqb kind 1 d1, eq-eqb kind 2 k)
 
-    pub step-list : (kind ≡ 1 → ⊥) → (kind ≡ 2 → ⊥) → kind ≡ 3 → b ≡ 0 → ListFirst (a + 1) (at + recordBits) ≡ stepAt script at
-    unfolding stepAt
-    step-list d1 d2 k zb =
+    pub item-list : (kind ≡ 1 → ⊥) → (kind ≡ 2 → ⊥) → kind ≡ 3 → b ≡ 0 → ListFirst (a + 1) ≡ itemAt script at
+    unfolding itemAt
+    item-list d1 d2 k zb =
         rw (← f .bits, ← f .kinds, ← f .first, ← f .second, le-ltb left recordBits (f .enough), ne-eqb kind 1 d1, ne-eqb kind 2 d2, eq-eqb kind 3 k, eq-eqb b 0 zb)
 
-    pub step-list-b : (kind ≡ 1 → ⊥) → (kind ≡ 2 → ⊥) → kind ≡ 3 → (b ≡ 0 → ⊥) → Malformed ≡ stepAt script at
-    unfolding stepAt
-    step-list-b d1 d2 k db =
+    pub item-list-b : (kind ≡ 1 → ⊥) → (kind ≡ 2 → ⊥) → kind ≡ 3 → (b ≡ 0 → ⊥) → Malformed ≡ itemAt script at
+    unfolding itemAt
+    item-list-b d1 d2 k db =
         rw (← f .bits, ← f .kinds, ← f .first, ← f .second, le-ltb left recordBits (f .enough), ne-eqb kind 1 d1, ne-eqb kind 2 d2, eq-eqb kind 3 k, ne-eqb b 0 db)
 
-    step-other : (kind ≡ 1 → ⊥) → (kind ≡ 2 → ⊥) → (kind ≡ 3 → ⊥) → cond (endsAt script at) End Malformed ≡ stepAt script at
-    unfolding stepAt
-    step-other d1 d2 d3 = rw (← f .bits, ← f .kinds, ← f .first, ← f .second, le-ltb left recordBits (f .enough), ne-eqb kind 1 d1, ne-eqb kind 2 d2, ne-eqb kind 3 d3)
+    item-other : (kind ≡ 1 → ⊥) → (kind ≡ 2 → ⊥) → (kind ≡ 3 → ⊥) → cond (endsAt script at) End Malformed ≡ itemAt script at
+    unfolding itemAt
+    item-other d1 d2 d3 = rw (← f .bits, ← f .kinds, ← f .first, ← f .second, le-ltb left recordBits (f .enough), ne-eqb kind 1 d1, ne-eqb kind 2 d2, ne-eqb kind 3 d3)
 
-    pub step-end : (kind ≡ 1 → ⊥) → (kind ≡ 2 → ⊥) → (kind ≡ 3 → ⊥) → endsAt script at ≡ true → End ≡ stepAt script at
-    step-end d1 d2 d3 e = ap (λ (x : Bool). cond x End Malformed) (sym e) ∙ step-other d1 d2 d3
+    pub item-end : (kind ≡ 1 → ⊥) → (kind ≡ 2 → ⊥) → (kind ≡ 3 → ⊥) → endsAt script at ≡ true → End ≡ itemAt script at
+    item-end d1 d2 d3 e = ap (λ (x : Bool). cond x End Malformed) (sym e) ∙ item-other d1 d2 d3
 
-    pub step-bad-end : (kind ≡ 1 → ⊥) → (kind ≡ 2 → ⊥) → (kind ≡ 3 → ⊥) → endsAt script at ≡ false → Malformed ≡ stepAt script at
-    step-bad-end d1 d2 d3 e = ap (λ (x : Bool). cond x End Malformed) (sym e) ∙ step-other d1 d2 d3
+    pub item-bad-end : (kind ≡ 1 → ⊥) → (kind ≡ 2 → ⊥) → (kind ≡ 3 → ⊥) → endsAt script at ≡ false → Malformed ≡ itemAt script at
+    item-bad-end d1 d2 d3 e = ap (λ (x : Bool). cond x End Malformed) (sym e) ∙ item-other d1 d2 d3

@@ -5,8 +5,8 @@ use Prim.Native.Nat.{ℕ, _+_, _-_}
 use lib.Dec.{eqb, leb}
 use Rattle.script.specs.Limits.{recordBits}
 use Rattle.script.specs.Record.{aAt, bAt, bitsLeft, endsAt, kindAt}
-use Rattle.script.specs.declared.reader.Step.{Step}
-use Rattle.script.specs.declared.reader.Step.the-variants.{Add, Remove, ListFirst, End, Malformed}
+use Rattle.script.specs.declared.step.Item.{Item}
+use Rattle.script.specs.declared.step.Item.the-variants.{Add, Remove, ListFirst, End, Malformed}
 
 -- the refusal number, the record's kind, a and b, and the position that the reader is left at
 pub record Reading : Type 0 where
@@ -30,10 +30,10 @@ readingAt script at =
     (record { refusal = 0; kind = kind; a = aAt script at; b = bAt script at; position = cond (eqb kind 0) at (at + recordBits) })
     (record { refusal = 9; kind = 0; a = 0; b = 0; position = at })
 
--- the numbers of each case, found at a position
-unfoldable pub readingOf : ℕ → Step → Reading
-readingOf at (Add a b next) = record { refusal = 0; kind = 1; a = a; b = b; position = next }
-readingOf at (Remove a b next) = record { refusal = 0; kind = 2; a = a; b = b; position = next }
-readingOf at (ListFirst k next) = record { refusal = 0; kind = 3; a = k - 1; b = 0; position = next }
-readingOf at End = record { refusal = 0; kind = 0; a = 0; b = 0; position = at }
-readingOf at Malformed = record { refusal = 9; kind = 0; a = 0; b = 0; position = at }
+-- the numbers of each case, with the position that the reader is left at
+unfoldable pub readingOf : Item → ℕ → Reading
+readingOf (Add a b) at = record { refusal = 0; kind = 1; a = a; b = b; position = at }
+readingOf (Remove a b) at = record { refusal = 0; kind = 2; a = a; b = b; position = at }
+readingOf (ListFirst k) at = record { refusal = 0; kind = 3; a = k - 1; b = 0; position = at }
+readingOf End at = record { refusal = 0; kind = 0; a = 0; b = 0; position = at }
+readingOf Malformed at = record { refusal = 9; kind = 0; a = 0; b = 0; position = at }

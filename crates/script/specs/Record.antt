@@ -9,8 +9,9 @@ use Rattle.arith.specs.Sums.{anyTo}
 use Rattle.packed.specs.Bits.{bitAt}
 use Rattle.script.specs.Field.{fieldAt}
 use Rattle.script.specs.Limits.{maxBytes, recordBits}
-use Rattle.script.specs.declared.reader.Step.{Step}
-use Rattle.script.specs.declared.reader.Step.the-variants.{Add, Remove, ListFirst, End, Malformed}
+use Rattle.script.specs.declared.step.Item.{Item}
+use Rattle.script.specs.declared.step.Item.the-variants.{Add, Remove, ListFirst, End, Malformed}
+use Rattle.script.specs.declared.step.Step.{Step}
 
 -- records of 18 bits, packed, most significant first: kind (2 bits), a (8), b (8)
 abbrev pub kindAt : List ℕ → ℕ → ℕ
@@ -32,16 +33,26 @@ endsAt script at =
     let rest : ℕ = bitsLeft script at - recordBits in
     eqb (aAt script at) 0 && (eqb (bAt script at) 0 && (ltb rest 8 && not (anyTo (λ i. bitAt script (at + recordBits + i)) rest)))
 
--- With too few bits left, malformed, which is refusal 9. Kind 1 adds the link a, b; 2 removes it; 3 lists k = a + 1 with b = 0; 0, the one kind
--- that is left of 2 bits, ends. Each record comes with the position past it.
-unfoldable pub stepAt : List ℕ → ℕ → Step
-stepAt script at =
+-- With too few bits left, malformed. Kind 1 adds the link a, b; 2 removes it; 3 lists k = a + 1 with b = 0; 0, the one kind that is left of 2 bits, ends.
+unfoldable pub itemAt : List ℕ → ℕ → Item
+itemAt script at =
     let kind : ℕ = kindAt script at in
     let a : ℕ = aAt script at in
     let b : ℕ = bAt script at in
-    let next : ℕ = at + recordBits in
     cond (ltb (bitsLeft script at) recordBits) Malformed
-    (cond (eqb kind 1) (Add a b next)
-    (cond (eqb kind 2) (Remove a b next)
-    (cond (eqb kind 3) (cond (eqb b 0) (ListFirst (a + 1) next) Malformed)
+    (cond (eqb kind 1) (Add a b)
+    (cond (eqb kind 2) (Remove a b)
+    (cond (eqb kind 3) (cond (eqb b 0) (ListFirst (a + 1)) Malformed)
     (cond (endsAt script at) End Malformed))))
+
+-- the reader moves past a record, or keeps its position with the end or malformed
+unfoldable pub pastItem : Item → ℕ → ℕ
+pastItem (Add a b) at = at + recordBits
+pastItem (Remove a b) at = at + recordBits
+pastItem (ListFirst k) at = at + recordBits
+pastItem End at = at
+pastItem Malformed at = at
+
+-- what a reader at a position yields, and the position that it is left at
+unfoldable pub stepAt : List ℕ → ℕ → Step
+stepAt script at = record { item = itemAt script at; at = pastItem (itemAt script at) at }

@@ -7,7 +7,7 @@ ghost use Rattle.script.specs.Field.{fieldAt};
 ghost use Rattle.script.specs.Limits.{maxBytes, maxWidth};
 
 // The number of the `width` bits from bit `at` on, most significant first.
-pub fn field(bytes: &[u8], at: usize, width: usize) -> usize
+pub(crate) fn field(bytes: &[u8], at: usize, width: usize) -> usize
     requires { ⌜ (width ≤ maxWidth) × (length (now bytes) ≤ maxBytes) × (at + width ≤ 8 * length (now bytes)) ⌝ }
     ensures { λ r. ⌜ r ≡ fieldAt (now (bytes .entry)) at width ⌝ }
 {

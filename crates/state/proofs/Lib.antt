@@ -1,13 +1,4 @@
-pub mod AcceptLaws
-pub mod EditLaws
-pub mod HonestLaws
+pub mod DegreeLaws
 pub mod MarkLaws
-pub mod OutcomeLaws
-pub mod PairRefusals
 pub mod RefusalLaws
-pub mod RoundTrip
-pub mod SameRefusal
-pub mod ScoreLaws
-pub mod SnapshotLaws
-pub mod Sound
 pub mod TouchLaws

@@ -1,22 +1,27 @@
 // Nodes that have more edges than the limit.
 use ego::limits::LIMIT;
-use packed::edges::degree;
-use packed::edges::has;
+use packed::degrees::degrees_of;
 ghost use mathlib.Core.Path.{_≡_};
-ghost use Prim.Native.Nat.{_+_, _<_, max};
+ghost use Prim.Native.Nat.{_≤_};
 ghost use lib.Dec.{ltb};
+ghost use lib.ListN.{length, getD};
+ghost use Rattle.arith.specs.Sums.{anyTo};
 ghost use Rattle.packed.specs.Pairs.{Room};
 ghost use Rattle.packed.specs.Edges.{edge};
 ghost use Rattle.ego.specs.Limits.{limit};
-ghost use Rattle.ego.specs.Graph.{degree};
-ghost use Rattle.state.specs.Refusal.{tooMany, everyone, touched};
+ghost use Rattle.state.specs.Refusal.{tooMany, everyone};
 
-// Whether node p has too many edges.
-pub fn is_over(edges: &[u8], n: usize, p: usize) -> bool
-    requires { ⌜ (p < n) × Room n (now edges) ⌝ }
-    ensures { λ r. ⌜ r ≡ ltb limit (degree (edge (now (edges .entry))) n p) ⌝ }
+// Whether one of the first n degrees is too many.
+pub fn any_among(degrees: &[u16], n: usize) -> bool
+    requires { ⌜ n ≤ length (now degrees) ⌝ }
+    ensures { λ r. ⌜ r ≡ anyTo (λ p. ltb limit (getD (now (degrees .entry)) p 0)) n ⌝ }
 {
-    LIMIT < degree(edges, n, p)
+    for p in 0..n {
+        if LIMIT < degrees[p] as usize {
+            return true;
+        }
+    }
+    false
 }
 
 // Whether any node has too many edges.
@@ -24,42 +29,6 @@ pub fn any_over(edges: &[u8], n: usize) -> bool
     requires { ⌜ Room n (now edges) ⌝ }
     ensures { λ r. ⌜ r ≡ tooMany (edge (now (edges .entry))) n everyone ⌝ }
 {
-    for p in 0..n {
-        if is_over(edges, n, p) {
-            return true;
-        }
-    }
-    false
-}
-
-// Whether node p is an end of the pair a, b or a common neighbour.
-pub fn is_touched(edges: &[u8], a: usize, b: usize, p: usize) -> bool
-    requires { ⌜ Room (max (max a b) p + 1) (now edges) ⌝ }
-    ensures { λ r. ⌜ r ≡ touched (edge (now (edges .entry))) a b p ⌝ }
-{
-    if p == a {
-        return true;
-    }
-    if p == b {
-        return true;
-    }
-    if has(edges, a, p) {
-        return has(edges, b, p);
-    }
-    false
-}
-
-// Whether an end of the pair a, b or a common neighbour has too many edges.
-pub fn touched_over(edges: &[u8], n: usize, a: usize, b: usize) -> bool
-    requires { ⌜ (a < n) × (b < n) × Room n (now edges) ⌝ }
-    ensures { λ r. ⌜ r ≡ tooMany (edge (now (edges .entry))) n (touched (edge (now (edges .entry))) a b) ⌝ }
-{
-    for p in 0..n {
-        if is_touched(edges, a, b, p) {
-            if is_over(edges, n, p) {
-                return true;
-            }
-        }
-    }
-    false
+    let degrees = degrees_of(edges, n);
+    any_among(&degrees[..], n)
 }

@@ -1,12 +1,11 @@
 // The figures of a state's nodes: cached scores, or bounds of them.
-use ego::bound::bound_of;
+use ego::bound::bound_at;
 ghost use mathlib.Core.Path.{_≡_};
-ghost use Prim.Native.Nat.{_≤_, _<_};
+ghost use Prim.Native.Nat.{ℕ, _*_, _≤_, _<_};
 ghost use lib.ListN.{length, getD, replicate};
 ghost use Rattle.arith.specs.Sums.{tabulate};
-ghost use Rattle.packed.specs.Pairs.{Room};
-ghost use Rattle.packed.specs.Edges.{edge};
-ghost use Rattle.ego.specs.Bound.{bound};
+ghost use Rattle.packed.specs.Pairs.{maxNodes, pairCount};
+ghost use Rattle.ego.specs.Limits.{unit};
 
 // Sets every figure to 0.
 pub fn zero(figures: &mut [u64])
@@ -17,13 +16,12 @@ pub fn zero(figures: &mut [u64])
     }
 }
 
-// Sets every figure to its node's bound.
-pub fn set_bounds(edges: &[u8], figures: &mut [u64])
-    requires { ⌜ Room (length (now figures)) (now edges) ⌝ }
-    ensures { λ _. ⌜ now (figures .exit) ≡ tabulate (bound (edge (now (edges .entry))) (length (now (figures .entry)))) (length (now (figures .entry))) ⌝ }
+// Sets every figure to the bound of its node's degree.
+pub fn set_bounds(degrees: &[u16], figures: &mut [u64])
+    requires { ⌜ (length (now figures) ≤ length (now degrees)) × ((p : ℕ) → p < length (now figures) → getD (now degrees) p 0 ≤ maxNodes) ⌝ }
+    ensures { λ _. ⌜ now (figures .exit) ≡ tabulate (λ p. unit * pairCount (getD (now (degrees .entry)) p 0)) (length (now (figures .entry))) ⌝ }
 {
-    let n = figures.len();
-    for p in 0..n {
-        figures[p] = bound_of(edges, n, p);
+    for p in 0..figures.len() {
+        figures[p] = bound_at(degrees[p] as u64);
     }
 }

@@ -1,10 +1,6 @@
-// The lent state of a graph and the calls on it.
-pub mod clear;
+// The lent state of a graph: its lengths, marks and figures, the refusals, and the nodes that have too many edges.
 pub mod crowded;
-pub mod edit;
 pub mod figures;
 pub mod marks;
 pub mod refusal;
-pub mod score;
 pub mod sizes;
-pub mod snapshot;

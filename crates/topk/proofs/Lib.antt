@@ -6,6 +6,7 @@ pub mod NextLaws
 pub mod TurnLaws
 pub mod Good
 pub mod Theorem
+pub mod Full
 pub mod LayoutLaws
 pub mod PlaceLaws
 pub mod SpliceLaws

@@ -180,8 +180,3 @@ module _ (truth : ℕ → ℕ) (k : ℕ) (figures marks : List ℕ) where
       → Right truth figures marks k (listed truth k figures marks)
   unfolding listed
   listed-right some most fits honest = right truth figures marks k honest fits
-
-  pub listed-length : k ≤ length figures → markBytes (length figures) ≤ length marks → Honest truth figures marks
-      → length (listed truth k figures marks .kept) ≡ k
-  unfolding listed
-  listed-length most fits honest = omega (arith, kept-length truth figures marks k honest fits)

@@ -5,11 +5,8 @@ use Prim.Native.Nat.{ℕ}
 use lib.Dec.{eqb}
 use lib.ListN.{length, take}
 use Rattle.arith.specs.Rank.{before}
-
--- a node and its figure
-pub record Entry : Type 0 where
-  pub node : ℕ
-  pub figure : ℕ
+-- the struct of src/entries: a node and its figure
+pub use Rattle.topk.specs.declared.entries.Entry.{Entry}
 
 abbrev pub entry : ℕ → ℕ → Entry
 entry node figure = record { node = node; figure = figure }

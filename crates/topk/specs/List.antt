@@ -1,7 +1,7 @@
 -- The list call over plain buffers: entry i at 2i (node) and 2i + 1 (grains) of one buffer of numbers. Assumes nothing.
-use mathlib.Core.Bool.{Bool, cond}
+use mathlib.Core.Bool.{cond}
 use mathlib.Core.List.{List, [], _∷_, _++_}
-use Prim.Native.Nat.{ℕ, _*_, _/_}
+use Prim.Native.Nat.{ℕ, _/_}
 use lib.Dec.{eqb}
 use lib.ListN.{length, drop, replicate}
 use Rattle.ego.specs.Graph.{Graph}
@@ -10,7 +10,7 @@ use Rattle.state.specs.State.{State, size, graph}
 use Rattle.state.specs.Refusal.{Condition, refusal, scratchLength, listLength, crowdedBefore, everyone}
 use Rattle.state.specs.Outcome.{lengths}
 use Rattle.topk.specs.Entries.{flat}
-use Rattle.topk.specs.Steps.{Progress, listed}
+use Rattle.topk.specs.Steps.{listed}
 
 -- the refusal number, the count of nodes worked out, and everything lent as the call leaves it
 pub record Listed : Type 0 where
@@ -27,8 +27,9 @@ listing refusal recomputed after entries scratch = record { refusal = refusal; r
 abbrev pub wanted : List ℕ → ℕ
 wanted entries = length entries / 2
 
-abbrev pub listConditions : ℕ → Graph → List ℕ → List ℕ → List Condition
-listConditions n g entries scratch = scratchLength n (length scratch) ∷ listLength n (wanted entries) ∷ crowdedBefore g n everyone ∷ []
+-- the conditions of a list of k entries, besides the lengths of the state
+abbrev pub listConditions : ℕ → Graph → ℕ → List ℕ → List Condition
+listConditions n g k scratch = scratchLength n (length scratch) ∷ listLength n k ∷ crowdedBefore g n everyone ∷ []
 
 -- what an accepted list leaves: the kept entries first and a number beyond them as it was; scratch bytes 0 to n - 1 are 0, the others as before
 unfoldable pub accepted : State → List ℕ → List ℕ → Listed
@@ -44,5 +45,5 @@ accepted s entries scratch =
 
 unfoldable pub listCall : State → List ℕ → List ℕ → Listed
 listCall s entries scratch =
-    let r = refusal (lengths s ++ listConditions (size s) (graph s) entries scratch) in
+    let r = refusal (lengths s ++ listConditions (size s) (graph s) (wanted entries) scratch) in
     cond (eqb r 0) (accepted s entries scratch) (record { refusal = r; recomputed = 0; after = s; entries = entries; scratch = scratch })

@@ -7,12 +7,13 @@ ghost use lib.ListN.{length, getD, set, drop, take};
 ghost use Rattle.topk.specs.Entries.{entry, keep, stops};
 ghost use Rattle.topk.specs.Layout.{entriesOf, place, spliced, Kept};
 
+#[repr(C)]
 pub struct Entry {
     pub node: u64,
     pub figure: u64,
 }
 
-pub fn entry_at(entries: &[u64], i: usize) -> Entry
+fn entry_at(entries: &[u64], i: usize) -> Entry
     requires { ⌜ 2 * i + 1 < length (now entries) ⌝ }
     ensures { λ r. ⌜ (r .node ≡ getD (now (entries .entry)) (2 * i) 0) × (r .figure ≡ getD (now (entries .entry)) (2 * i + 1) 0) ⌝ }
 {
@@ -23,7 +24,7 @@ pub fn entry_at(entries: &[u64], i: usize) -> Entry
     Entry { node, figure }
 }
 
-pub fn put(entries: &mut [u64], i: usize, node: u64, figure: u64)
+fn put(entries: &mut [u64], i: usize, node: u64, figure: u64)
     requires { ⌜ 2 * i + 1 < length (now entries) ⌝ }
     ensures { λ _. ⌜ now (entries .exit) ≡ set (set (now (entries .entry)) (2 * i) node) (2 * i + 1) figure ⌝ }
 {
@@ -34,7 +35,7 @@ pub fn put(entries: &mut [u64], i: usize, node: u64, figure: u64)
 }
 
 // How many of the kept entries stand before the place of a node with its figure.
-pub fn place_of(entries: &[u64], kept: usize, node: u64, figure: u64) -> usize
+fn place_of(entries: &[u64], kept: usize, node: u64, figure: u64) -> usize
     requires { ⌜ 2 * kept ≤ length (now entries) ⌝ }
     ensures { λ r. ⌜ r ≡ place (entry node figure) (entriesOf kept (now (entries .entry))) ⌝ }
 {
@@ -50,7 +51,7 @@ pub fn place_of(entries: &[u64], kept: usize, node: u64, figure: u64) -> usize
 }
 
 // Puts an entry in at a place, and lets the last of k fall off the end.
-pub fn shift_in(
+fn shift_in(
     entries: &mut [u64],
     kept: usize,
     k: usize,
@@ -79,7 +80,7 @@ pub fn shift_in(
 }
 
 // Puts a node with its figure among the kept entries, of which there are at most k, and returns how many there are then.
-pub fn insert(entries: &mut [u64], kept: usize, k: usize, node: u64, figure: u64) -> usize
+pub(crate) fn insert(entries: &mut [u64], kept: usize, k: usize, node: u64, figure: u64) -> usize
     requires { ⌜ (2 * k ≤ length (now entries)) × (kept ≤ k) ⌝ }
     ensures { λ r. ⌜ Kept (keep k (entry node figure) (entriesOf kept (now (entries .entry)))) (now (entries .entry)) (now (entries .exit)) r ⌝ }
 {
@@ -88,7 +89,7 @@ pub fn insert(entries: &mut [u64], kept: usize, k: usize, node: u64, figure: u64
 }
 
 // Whether k entries are kept, and a node with its figure ranks after the last of them.
-pub fn stops_at(entries: &[u64], kept: usize, k: usize, node: u64, figure: u64) -> bool
+pub(crate) fn stops_at(entries: &[u64], kept: usize, k: usize, node: u64, figure: u64) -> bool
     requires { ⌜ (2 * k ≤ length (now entries)) × (kept ≤ k) × (0 < k) ⌝ }
     ensures { λ r. ⌜ r ≡ stops k (entry node figure) (entriesOf kept (now (entries .entry))) ⌝ }
 {

@@ -24,7 +24,7 @@ pub struct Answer {
 }
 
 // The refusal of a list of k entries, of n nodes and so many bytes of marks and of scratch.
-pub fn list_refusal(edges: &[u8], n: usize, marks: usize, k: usize, scratch: usize) -> u64
+fn list_refusal(edges: &[u8], n: usize, marks: usize, k: usize, scratch: usize) -> u64
     ensures { λ r. ⌜ r ≡ refusal (stateLengths n (length (now (edges .entry))) marks ++ scratchLength n scratch ∷ listLength n k ∷ crowdedBefore (edge (now (edges .entry))) n everyone ∷ []) ⌝ }
 {
     let size = state_refusal(n, edges.len(), marks);
@@ -47,7 +47,7 @@ pub fn list_refusal(edges: &[u8], n: usize, marks: usize, k: usize, scratch: usi
 }
 
 // The list, where nothing turns it back. The scratch has a byte for each node, whatever it holds, and is all 0 afterwards.
-pub fn accepted(
+fn accepted(
     edges: &[u8],
     figures: &mut [u64],
     marks: &mut [u8],

@@ -7,7 +7,7 @@ ghost use Rattle.topk.specs.Steps.{better, bestBelow};
 ghost use Rattle.topk.specs.Turns.{nextOf, looking};
 
 // Of the best so far, which is the number of nodes where there is none, and node i, the one that ranks first. A node that is taken does not count.
-pub fn better(figures: &[u64], taken: &[u8], best: usize, i: usize) -> usize
+fn better(figures: &[u64], taken: &[u8], best: usize, i: usize) -> usize
     requires { ⌜ (i < length (now figures)) × (i < length (now taken)) × (best ≤ length (now figures)) ⌝ }
     ensures { λ r. ⌜ (r ≤ length (now (figures .entry))) × (nextOf (length (now (figures .entry))) r ≡ better (looking (now (figures .entry)) (now (taken .entry))) (nextOf (length (now (figures .entry))) best) i) ⌝ }
 {
@@ -26,7 +26,7 @@ pub fn better(figures: &[u64], taken: &[u8], best: usize, i: usize) -> usize
 }
 
 // The first by rank among the nodes that are not taken, and the number of nodes where all are.
-pub fn next_node(figures: &[u64], taken: &[u8]) -> usize
+pub(crate) fn next_node(figures: &[u64], taken: &[u8]) -> usize
     requires { ⌜ length (now taken) ≡ length (now figures) ⌝ }
     ensures { λ r. ⌜ (r ≤ length (now (figures .entry))) × (nextOf (length (now (figures .entry))) r ≡ bestBelow (looking (now (figures .entry)) (now (taken .entry))) (length (now (figures .entry)))) ⌝ }
 {

@@ -3,7 +3,7 @@ ghost use mathlib.Core.Path.{_≡_};
 ghost use Rattle.arith.specs.Rank.{before};
 
 // Whether figure f of node p ranks before figure g of node q.
-pub fn ranks_before(f: u64, p: u64, g: u64, q: u64) -> bool
+pub(crate) fn ranks_before(f: u64, p: u64, g: u64, q: u64) -> bool
     ensures { λ r. ⌜ r ≡ before f p g q ⌝ }
 {
     if g < f {

@@ -19,7 +19,7 @@ pub struct Turn {
 }
 
 // Takes node p.
-pub fn take_node(
+fn take_node(
     edges: &[u8],
     figures: &mut [u64],
     marks: &mut [u8],
@@ -47,7 +47,7 @@ pub fn take_node(
 }
 
 // One turn: the next node is taken, unless the list is done.
-pub fn one_turn(
+fn one_turn(
     edges: &[u8],
     figures: &mut [u64],
     marks: &mut [u8],
@@ -90,7 +90,7 @@ pub fn one_turn(
 }
 
 // All turns, from no node taken. Returns how many nodes were recomputed.
-pub fn run(
+pub(crate) fn run(
     edges: &[u8],
     figures: &mut [u64],
     marks: &mut [u8],

@@ -20,7 +20,7 @@ pub struct Worth {
 }
 
 // The score of node p, where no node has too many edges.
-pub fn fresh_score(edges: &[u8], n: usize, p: usize) -> u64
+fn fresh_score(edges: &[u8], n: usize, p: usize) -> u64
     requires { ⌜ (p < n) × Scorable n (now edges) ⌝ }
     ensures { λ r. ⌜ r ≡ score (edge (now (edges .entry))) n p ⌝ }
 {
@@ -31,7 +31,13 @@ pub fn fresh_score(edges: &[u8], n: usize, p: usize) -> u64
 }
 
 // A stale node is recomputed; an exact node's figure is its own. So many nodes were recomputed before.
-pub fn worth_of(edges: &[u8], figures: &[u64], marks: &[u8], p: usize, recomputed: u64) -> Worth
+pub(crate) fn worth_of(
+    edges: &[u8],
+    figures: &[u64],
+    marks: &[u8],
+    p: usize,
+    recomputed: u64,
+) -> Worth
     requires { ⌜ (p < length (now figures)) × Scorable (length (now figures)) (now edges) × (markBytes (length (now figures)) ≤ length (now marks)) × (recomputed < length (now figures)) ⌝ }
     ensures { λ r. ⌜ (r .figure ≡ worth (truthOf (now (edges .entry)) (now (figures .entry))) (progressOf (now (figures .entry)) (now (marks .entry)) [] [] 0 0) p) × (r .recomputed ≡ recomputed + bit (stale (now (marks .entry)) p)) ⌝ }
 {

@@ -6,7 +6,7 @@ use denote.Ref.{now}
 use lib.Seq.{length-take-le}
 use Rattle.capi.proofs.CallLaws.{called-passed, called-refused, lent-by, room-part}
 use Rattle.capi.specs.Calls.{fjAdd}
-use Rattle.state.specs.Edit.{addCall}
+use Rattle.edits.specs.Edit.{addCall}
 use Rattle.state.specs.Outcome.{state}
 use Rattle.capi.proofs.fj_add.Statement.{statement}
 use Rattle.capi.proofs.fj_add.Tie as tie

@@ -6,7 +6,7 @@ use denote.Ref.{now}
 use lib.Seq.{length-take-le}
 use Rattle.capi.proofs.CallLaws.{called-passed, called-refused, lent-by, room-part}
 use Rattle.capi.specs.Calls.{fjClear}
-use Rattle.state.specs.Clear.{clearCall}
+use Rattle.calls.specs.Clear.{clearCall}
 use Rattle.state.specs.Outcome.{state}
 use Rattle.capi.proofs.fj_clear.Statement.{statement}
 use Rattle.capi.proofs.fj_clear.Tie as tie

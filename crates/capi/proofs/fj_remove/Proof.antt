@@ -6,7 +6,7 @@ use denote.Ref.{now}
 use lib.Seq.{length-take-le}
 use Rattle.capi.proofs.CallLaws.{called-passed, called-refused, lent-by, room-part}
 use Rattle.capi.specs.Calls.{fjRemove}
-use Rattle.state.specs.Edit.{removeCall}
+use Rattle.edits.specs.Edit.{removeCall}
 use Rattle.state.specs.Outcome.{state}
 use Rattle.capi.proofs.fj_remove.Statement.{statement}
 use Rattle.capi.proofs.fj_remove.Tie as tie

@@ -1,73 +1,36 @@
--- `merge::merged::any_over_after` meets its contract. After p turns no node below p has too many edges. Assumes nothing.
-use mathlib.Core.Bool.{_&&_, false}
+-- `merge::merged::any_over_after` meets its contract: the edges after the call are those of the merged graph. Assumes nothing.
 use mathlib.Core.Path.{ap, sym, _∙_, _≡_}
-use Prim.Native.Nat.{_-_, _≤_}
-use native.Mathlib.Nat.{le-antisymm}
 use native.Mathlib.Omega.{arith}
 use borrow.Author.Needs.{needs}
-use borrow.Author.Tests.{le-ltb, lt-ltb}
 use denote.Ref.{now}
-use lib.Dec.{ltb}
-use Rattle.arith.proofs.Sums.{anyTo-here, anyTo-more, anyTo-none}
-use Rattle.arith.specs.Sums.{anyTo}
-use Rattle.ego.proofs.FoundLaws.{degree-is}
-use Rattle.ego.specs.Graph.{degree}
-use Rattle.ego.specs.Limits.{limit}
-use Rattle.merge.specs.Reconcile.{merged}
-use Rattle.packed.specs.Edges.{edge}
-use Rattle.state.specs.Refusal.{everyone, tooMany}
+use lib.ListN.{length}
+use Rattle.merge.proofs.ChangeLaws.{length-merged, over-after-is}
+use Rattle.merge.specs.Steps.{maxEdgeBytes}
+use Rattle.calls.proofs.SnapshotLaws.{bytes-small}
 use Rattle.merge.proofs.merged.any_over_after.Statement.{statement}
 use Rattle.merge.proofs.merged.any_over_after.Tie as tie
 
-abbrev Inv-loop : tie.InvT-loop
-Inv-loop edges theirs base n p₀ p = (p ≤ n) × (anyTo (λ p. everyone p && ltb limit (degree (merged (edge edges) (edge theirs) (edge base)) n p)) p ≡ false)
+merged-edges-requires : tie.Need-merged-edges-requires
+merged-edges-requires c κs = search needs
 
-abbrev μ-loop : tie.MeasureT-loop
-μ-loop edges theirs base n p₀ p = n - p
-
-loop-holds : tie.Need-loop-holds Inv-loop μ-loop
-loop-holds c = (search needs, anyTo-none _)
-
-merged-degree-requires : tie.Need-merged-degree-requires Inv-loop μ-loop
-merged-degree-requires c κs =
+length-after : (c : tie.After-after) → length (c .before .merged-edges .result) ≡ maxEdgeBytes
+length-after c =
     let s = c .before .before .before .before .before in
-    (omega arith, s .pre .0, s .pre .1, s .pre .2)
+    ap length (c .before .merged-edges .ensures) ∙ length-merged (now (s .args .edges)) (now (s .args .theirs)) (now (s .args .base)) (s .args .n) (s .pre .0 .few)
 
-returns : tie.Need-returns Inv-loop μ-loop
-unfolding tooMany
+slice-aggregate-any-over : tie.Need-slice-aggregate-any-over
+slice-aggregate-any-over c = sym (length-after c)
+
+any-over-requires : tie.Need-any-over-requires
+any-over-requires c κs =
+    let s = c .before .before .before .before .before in
+    record { few = s .pre .0 .few; bits = omega (arith, length-after c, bytes-small (s .args .n) (s .pre .0 .few)) }
+
+returns : tie.Need-returns
 returns c =
-    let s = c .before .before .before .before .before .before .before in
-    let p = c .before .before .before .loop .p in
-    sym (anyTo-here _ _ p (c .before .before .loop-test .taken) (lt-ltb limit (degree (merged (edge (now (s .args .edges))) (edge (now (s .args .theirs))) (edge (now (s .args .base)))) (s .args .n) p) (omega (arith, c .before .merged-degree .ensures, degree-is (merged (edge (now (s .args .edges))) (edge (now (s .args .theirs))) (edge (now (s .args .base)))) (s .args .n) p, c .if1 .taken))))
-
-add-p : tie.Need-add-p Inv-loop μ-loop
-add-p c = omega arith
-
-loop-less : tie.Need-loop-less Inv-loop μ-loop
-loop-less c = omega arith
-
-loop-again : tie.Need-loop-again Inv-loop μ-loop
-loop-again c =
-    let s = c .before .before .before .before .before .before .before in
-    let at = c .before .before .before .loop in
-    (omega arith, anyTo-more _ (at .p) (at .inv .1) (le-ltb limit (degree (merged (edge (now (s .args .edges))) (edge (now (s .args .theirs))) (edge (now (s .args .base)))) (s .args .n) (at .p)) (omega (arith, c .before .merged-degree .ensures, degree-is (merged (edge (now (s .args .edges))) (edge (now (s .args .theirs))) (edge (now (s .args .base)))) (s .args .n) (at .p), c .if1 .left))))
-
-returns-2 : tie.Need-returns-2 Inv-loop μ-loop
-unfolding tooMany
-returns-2 c =
-    let at = c .before .loop in
-    sym (ap (anyTo _) (sym (le-antisymm (at .inv .0) (c .loop-test .left))) ∙ at .inv .1)
+    let s = c .before .before .before .before .before .before in
+    over-after-is (now (s .args .edges)) (now (s .args .theirs)) (now (s .args .base)) (s .args .n) (s .pre .0 .few) (c .before .before .merged-edges .ensures) (c .any-over .ensures)
 
 pub any-over-after-spec : {M : Type 1} → statement M
 any-over-after-spec =
-    tie.close
-    (tie.spec
-    Inv-loop
-    μ-loop
-    loop-holds
-    merged-degree-requires
-    returns
-    add-p
-    loop-less
-    loop-again
-    returns-2)
+    tie.close (tie.spec merged-edges-requires slice-aggregate-any-over any-over-requires returns)

@@ -4,7 +4,7 @@ use denote.Ref.{now}
 use Rattle.merge.proofs.MergeLaws.{steps-reconcile}
 use Rattle.merge.proofs.StepLaws.{accepted-aligned, aligned-kept}
 use Rattle.merge.specs.Reconcile.{reconcileCall}
-use Rattle.state.proofs.OutcomeLaws.{call-accepted, call-refused, lengths-refused}
+use Rattle.calls.proofs.OutcomeLaws.{call-accepted, call-refused, lengths-refused}
 use Rattle.state.proofs.RefusalLaws.{fitted-by, sized-room}
 use Rattle.state.specs.Outcome.{state}
 use Rattle.merge.proofs.reconcile.reconcile.Statement.{statement}

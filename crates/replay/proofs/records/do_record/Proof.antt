@@ -1,35 +1,34 @@
 -- `replay::records::do_record` meets its contract. Assumes nothing.
-use mathlib.Core.Path.{sym, _∙_}
-use native.Mathlib.Omega.{arith}
+use mathlib.Core.Path.{sym}
 use borrow.Author.Needs.{needs}
 use denote.Ref.{now}
-use Rattle.script.proofs.ReadingLaws.{add-moved, list-moved, remove-moved}
+use Rattle.script.proofs.ReadingLaws.{list-small, step-within}
 use Rattle.replay.proofs.records.do_record.Statement.{statement}
 use Rattle.replay.proofs.records.do_record.Tie as tie
 
-next-requires : tie.Need-next-requires
-next-requires c κs = search needs
+read-requires : tie.Need-read-requires
+read-requires c κs = search needs
 
-enum-known-a : tie.Need-enum-known-a
-enum-known-a c = search needs
+enum-known-item : tie.Need-enum-known-item
+enum-known-item c = search needs
 
 do-add-requires : tie.Need-do-add-requires
 do-add-requires c κs = search needs
 
-enum-known-a-2 : tie.Need-enum-known-a-2
-enum-known-a-2 c = search needs
+enum-known-item-2 : tie.Need-enum-known-item-2
+enum-known-item-2 c = search needs
 
 do-remove-requires : tie.Need-do-remove-requires
 do-remove-requires c κs = search needs
 
-enum-known-k : tie.Need-enum-known-k
-enum-known-k c = search needs
+enum-known-item-3 : tie.Need-enum-known-item-3
+enum-known-item-3 c = search needs
 
 do-list-requires : tie.Need-do-list-requires
 do-list-requires c κs =
-    let s = c .before .before .before .before .before .before .before .before .before .before .before in
-    let e = sym (c .before .before .before .before .k .given .1) in
-    list-moved (now (s .args .script)) (s .args .at) (e ∙ c .before .before .before .before .before .before .next .ensures .0) .1
+    let r = c .before .before .before .before .before .before in
+    let s = r .before .before .before .before .before in
+    list-small (now (s .args .script)) (s .args .at) (r .read .ensures .0) (sym (c .before .before .before .before .item3 .given .1))
 
 enum-told : tie.Need-enum-told
 enum-told c = search needs
@@ -60,10 +59,9 @@ same-length-3 c = search needs
 
 returns : tie.Need-returns
 returns c =
-    let s = c .before .before .before .before .before .before .before .before .before .before .before .before .before .before .before .before .before .before in
-    let e = sym (c .before .before .before .before .before .before .before .before .before .before .before .a .given .1) in
-    let m = add-moved (now (s .args .script)) (s .args .at) (e ∙ c .before .before .before .before .before .before .before .before .before .before .before .before .before .next .ensures .0) .0 in
-    (omega (arith, m .past), m .within)
+    let r = c .before .before .before .before .before .before .before .before .before .before .before .before .before in
+    let s = r .before .before .before .before .before in
+    step-within (now (s .args .script)) (s .args .at) (r .read .ensures .0) (s .pre)
 
 same-length-4 : tie.Need-same-length-4
 same-length-4 c = search needs
@@ -76,10 +74,9 @@ same-length-6 c = search needs
 
 returns-2 : tie.Need-returns-2
 returns-2 c =
-    let s = c .before .before .before .before .before .before .before .before .before .before .before .before .before .before .before .before .before .before in
-    let e = sym (c .before .before .before .before .before .before .before .before .before .before .before .a2 .given .1) in
-    let m = remove-moved (now (s .args .script)) (s .args .at) (e ∙ c .before .before .before .before .before .before .before .before .before .before .before .before .before .next .ensures .0) .0 in
-    (omega (arith, m .past), m .within)
+    let r = c .before .before .before .before .before .before .before .before .before .before .before .before .before in
+    let s = r .before .before .before .before .before in
+    step-within (now (s .args .script)) (s .args .at) (r .read .ensures .0) (s .pre)
 
 same-length-7 : tie.Need-same-length-7
 same-length-7 c = search needs
@@ -92,27 +89,32 @@ same-length-9 c = search needs
 
 returns-3 : tie.Need-returns-3
 returns-3 c =
-    let s = c .before .before .before .before .before .before .before .before .before .before .before .before .before .before .before .before in
-    let e = sym (c .before .before .before .before .before .before .before .before .before .k .given .1) in
-    let m = list-moved (now (s .args .script)) (s .args .at) (e ∙ c .before .before .before .before .before .before .before .before .before .before .before .next .ensures .0) .0 in
-    (omega (arith, m .past), m .within)
+    let r = c .before .before .before .before .before .before .before .before .before .before .before in
+    let s = r .before .before .before .before .before in
+    step-within (now (s .args .script)) (s .args .at) (r .read .ensures .0) (s .pre)
 
 returns-4 : tie.Need-returns-4
-returns-4 c = search needs
+returns-4 c =
+    let r = c .before .before .before .before in
+    let s = r .before .before .before .before .before in
+    step-within (now (s .args .script)) (s .args .at) (r .read .ensures .0) (s .pre)
 
 returns-5 : tie.Need-returns-5
-returns-5 c = search needs
+returns-5 c =
+    let r = c .before .before .before .before in
+    let s = r .before .before .before .before .before in
+    step-within (now (s .args .script)) (s .args .at) (r .read .ensures .0) (s .pre)
 
 pub do-record-spec : {M : Type 1} → statement M
 do-record-spec =
     tie.close
     (tie.spec
-    next-requires
-    enum-known-a
+    read-requires
+    enum-known-item
     do-add-requires
-    enum-known-a-2
+    enum-known-item-2
     do-remove-requires
-    enum-known-k
+    enum-known-item-3
     do-list-requires
     enum-told
     slice-aggregate-word

@@ -3,7 +3,7 @@ use mathlib.Core.Path.{sym}
 use native.Mathlib.Omega.{arith}
 use borrow.Author.Needs.{needs}
 use lib.Seq.{length-take-le}
-use Rattle.state.proofs.SnapshotLaws.{bytes-small}
+use Rattle.calls.proofs.SnapshotLaws.{bytes-small}
 use Rattle.replay.proofs.records.on_nodes.Statement.{statement}
 use Rattle.replay.proofs.records.on_nodes.Tie as tie
 

@@ -1,0 +1,5 @@
+pub mod AcceptLaws
+pub mod OutcomeLaws
+pub mod RoundTrip
+pub mod ScoreLaws
+pub mod SnapshotLaws

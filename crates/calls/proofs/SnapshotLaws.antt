@@ -1,0 +1,196 @@
+-- A snapshot's refusals and its parts. Assumes nothing.
+use mathlib.Core.Bool.{_&&_, Bool, false, true}
+use mathlib.Core.List.{_++_, [], List, _∷_}
+use mathlib.Core.Path.{ap, refl, subst, sym, _∙_, _≡_}
+use Prim.Native.Nat.{_%_, _*_, _+_, _-_, _/_, _<_, _^_, suc, zero, ℕ, _≤_}
+use native.Mathlib.Decide.{decLt}
+use native.Mathlib.Nat.{lt-of-le-of-lt, mod-eq-of-lt, mul-le-mul}
+use native.Mathlib.Omega.{arith}
+use borrow.Author.Tests.{eq-eqb, eqb-true, le-leb, le-ltb, lt-leb, lt-ltb, ne-eqb, not-false}
+use lib.Dec.{eqb, leb, ltb}
+use lib.ListN.{drop, getD, length, length-drop, length-replicate, replicate, take}
+use lib.Seq.{ext-getD, getD-drop, take-length}
+use Rattle.arith.proofs.Sums.{anyTo-never, fill-table, getD-fillTo, getD-tabulate, length-tabulate, tabulate-is}
+use Rattle.arith.proofs.Tests.{or-false-both}
+use Rattle.arith.proofs.Words.{pack-is, trim-high, trim-le, trim-low}
+use Rattle.arith.specs.Sums.{anyTo, fillTo, tabulate}
+use Rattle.packed.proofs.BitLaws.{byte-bit}
+use Rattle.packed.specs.Bits.{bitAt, Bytes}
+use Rattle.packed.specs.Edges.{edge}
+use Rattle.packed.specs.Pairs.{maxNodes, pairCount}
+use Rattle.calls.proofs.AcceptLaws.{passes}
+use Rattle.state.proofs.RefusalLaws.{append-refused, Fitted, fitted-append, passed-after, passed-before, passed-length, refusal-none, refused-after, refused-before, refused-length}
+use Rattle.state.specs.Outcome.{lengths, stateLengths}
+use Rattle.state.specs.Refusal.{badSnapshot, Condition, crowdedAfter, everyone, otherCount, refusal, snapshotEdges, snapshotNodes, spareSet, tooMany}
+use Rattle.state.specs.Sizes.{edgeBytes, maxSnapshot, snapshotBytes}
+use Rattle.calls.specs.Snapshot.{formConditions, loadConditions, snapshotByte, snapshotOf, writeCall, writeConditions, written}
+use Rattle.state.specs.State.{graph, size, State}
+
+module _ (cs : List Condition) (snapshot : List ℕ) where
+  pub refused-empty : length snapshot ≡ 0 → refusal (badSnapshot snapshot ∷ cs) ≡ 9
+  unfolding refusal badSnapshot
+  refused-empty e = rw (eq-eqb (length snapshot) 0 e)
+
+  pub refused-other-length : (length snapshot ≡ 0 → ⊥) → (length snapshot ≡ snapshotBytes (snapshotNodes snapshot) → ⊥) → refusal (badSnapshot snapshot ∷ cs) ≡ 9
+  unfolding refusal badSnapshot
+  refused-other-length d e = rw (ne-eqb (length snapshot) 0 d, ne-eqb (length snapshot) (snapshotBytes (snapshotNodes snapshot)) e)
+
+  module _ (some : length snapshot ≡ 0 → ⊥) (long : length snapshot ≡ snapshotBytes (snapshotNodes snapshot)) where
+    pub refused-spare : spareSet (snapshotNodes snapshot) (snapshotEdges snapshot) ≡ true → refusal (badSnapshot snapshot ∷ cs) ≡ 9
+    unfolding refusal badSnapshot
+    refused-spare e = rw (ne-eqb (length snapshot) 0 some, eq-eqb (length snapshot) (snapshotBytes (snapshotNodes snapshot)) long, e)
+
+    pub passed-snapshot : spareSet (snapshotNodes snapshot) (snapshotEdges snapshot) ≡ false → refusal (badSnapshot snapshot ∷ cs) ≡ refusal cs
+    unfolding refusal badSnapshot
+    passed-snapshot e = rw (ne-eqb (length snapshot) 0 some, eq-eqb (length snapshot) (snapshotBytes (snapshotNodes snapshot)) long, e)
+
+-- the loop over the spare bits starts past the pairs
+pub spare-start : (n : ℕ) (edges : List ℕ) → anyTo (λ i. leb (pairCount n) i && bitAt edges i) (pairCount n) ≡ false
+spare-start n edges = anyTo-never _ (pairCount n) (λ i h. rw (lt-leb (pairCount n) i h))
+
+pub spare-here : (n : ℕ) (edges : List ℕ) (i : ℕ) {t : Bool} → pairCount n ≤ i → bitAt edges i ≡ t → leb (pairCount n) i && bitAt edges i ≡ t
+spare-here n edges i h e = rw (le-leb (pairCount n) i h) e
+
+-- copied edges
+pub copied : (snapshot edges₀ : List ℕ) {edges : List ℕ} {i n : ℕ} → length snapshot ≡ 1 + length edges₀ → n ≡ length edges₀ → i ≤ n → n ≤ i
+    → edges ≡ fillTo (λ k. getD snapshot (k + 1) 0) edges₀ i → edges ≡ drop 1 snapshot
+copied snapshot edges₀ l e a b h =
+    fill-table (λ k. getD snapshot (k + 1) 0) edges₀ 0 e a b h
+    ∙ ap (tabulate (λ k. getD snapshot (k + 1) 0)) (e ∙ body)
+    ∙ sym (tabulate-is (λ k. getD snapshot (k + 1) 0) 0 (drop 1 snapshot) (λ k g. getD-drop 1 snapshot k 0 ∙ ap (λ m. getD snapshot m 0) (omega arith)))
+  where
+    body : length edges₀ ≡ length (drop 1 snapshot)
+    body = omega (arith, length-drop 1 snapshot)
+
+-- what a load that is accepted knows of its snapshot
+pub record Fits (n : ℕ) (snapshot : List ℕ) : Type 0 where
+  pub nodes : snapshotNodes snapshot ≡ n
+  pub long : length snapshot ≡ snapshotBytes n
+  pub spare : spareSet n (snapshotEdges snapshot) ≡ false
+
+pub fits-by : (n : ℕ) (snapshot : List ℕ) (cs : List Condition) {r : ℕ} → r ≡ refusal (badSnapshot snapshot ∷ otherCount n snapshot ∷ cs) → r ≡ 0 → Fits n snapshot
+unfolding badSnapshot otherCount
+fits-by n snapshot cs e z =
+    let a = passes (badSnapshot snapshot) _ (λ q. omega arith) (sym e ∙ z) in
+    let b = passes (otherCount n snapshot) _ (λ q. omega arith) (a .1) in
+    let is : snapshotNodes snapshot ≡ n = eqb-true (snapshotNodes snapshot) n (not-false (eqb (snapshotNodes snapshot) n) (b .0)) in
+    let form = or-false-both _ _ (or-false-both (eqb (length snapshot) 0) _ (a .0) .1) in
+    record {
+      nodes = is;
+      long = eqb-true (length snapshot) _ (not-false _ (form .0)) ∙ ap snapshotBytes is;
+      spare = subst (λ m. spareSet m (snapshotEdges snapshot) ≡ false) is (form .1);
+    }
+
+-- ---- how a load's refusals go on after those of the form
+
+module _ (n : ℕ) (snapshot : List ℕ) {r : ℕ} (form : r ≡ refusal (formConditions n snapshot)) where
+  abbrev crowded : Condition
+  crowded = crowdedAfter (edge (snapshotEdges snapshot)) n everyone
+
+  pub form-refused : (r ≡ 0 → ⊥) → r ≡ refusal (loadConditions n snapshot)
+  form-refused d = sym (append-refused (formConditions n snapshot) (crowded ∷ []) (sym form) d)
+
+  module _ (z : r ≡ 0) where
+    form-passed : refusal (loadConditions n snapshot) ≡ refusal (crowded ∷ [])
+    unfolding refusal badSnapshot otherCount
+    form-passed =
+        let a = passes (badSnapshot snapshot) (otherCount n snapshot ∷ []) (λ q. omega arith) (sym form ∙ z) in
+        let b = passes (otherCount n snapshot) [] (λ q. omega arith) (a .1) in
+        rw (a .0, b .0)
+
+    pub load-crowded : tooMany (edge (snapshotEdges snapshot)) n everyone ≡ true → 12 ≡ refusal (loadConditions n snapshot)
+    load-crowded t = sym (form-passed ∙ refused-after [] _ n everyone t)
+
+    pub load-passed : tooMany (edge (snapshotEdges snapshot)) n everyone ≡ false → 0 ≡ refusal (loadConditions n snapshot)
+    load-passed t = sym (form-passed ∙ passed-after [] _ n everyone t ∙ refusal-none)
+
+-- a sheet's length is small
+pub bytes-small : (n : ℕ) → n ≤ maxNodes → edgeBytes n ≤ 4080
+unfolding pairCount
+bytes-small n h = omega (arith, mul-le-mul {n₂ = 256} {m₂ = 255} h (let l : n - 1 ≤ 255 = omega arith in l))
+
+-- the part of a sheet after its first byte
+pub part-is : (snapshot : List ℕ) → take (length snapshot - 1) (drop 1 snapshot) ≡ snapshotEdges snapshot
+part-is snapshot = ap (λ m. take m (drop 1 snapshot)) (sym (length-drop 1 snapshot)) ∙ take-length (drop 1 snapshot)
+
+pub part-length : (snapshot : List ℕ) {m : ℕ} → length snapshot ≡ 1 + m → length (take (length snapshot - 1) (drop 1 snapshot)) ≡ m
+part-length snapshot e = ap length (part-is snapshot) ∙ length-drop 1 snapshot ∙ omega arith
+
+-- ---- the bytes that are written
+
+module _ (edges : List ℕ) (n k : ℕ) (small : getD edges k 0 < 256) where
+  -- a byte of pairs alone is copied
+  pub whole-byte : 8 * suc k ≤ pairCount n → getD edges k 0 ≡ snapshotByte edges n (suc k)
+  unfolding snapshotByte
+  whole-byte h = pack-is 8 (getD edges k 0) (λ j. ltb (8 * k + (7 - j)) (pairCount n) && bitAt edges (8 * k + (7 - j))) small (λ j l. sym (rw (lt-ltb (8 * k + (7 - j)) (pairCount n) (omega arith)) (byte-bit edges k j l)))
+
+  -- of the last byte the spare bits are left out
+  pub last-byte : pairCount n < 8 * suc k → 8 * k ≤ pairCount n
+      → getD edges k 0 / 2 ^ (8 * suc k - pairCount n) * 2 ^ (8 * suc k - pairCount n) ≡ snapshotByte edges n (suc k)
+  unfolding snapshotByte
+  last-byte h g =
+      let x = getD edges k 0 in
+      let s = 8 * suc k - pairCount n in
+      pack-is 8 (x / 2 ^ s * 2 ^ s) (λ j. ltb (8 * k + (7 - j)) (pairCount n) && bitAt edges (8 * k + (7 - j))) (lt-of-le-of-lt (trim-le x s) small) (λ j l. elim (decLt j s) [
+        | yes b ↦ trim-low x s j b ∙ sym (rw (le-ltb (8 * k + (7 - j)) (pairCount n) (omega arith)))
+        | no b ↦ trim-high x s j (omega arith) ∙ sym (rw (lt-ltb (8 * k + (7 - j)) (pairCount n) (omega arith)) (byte-bit edges k j l))
+      ])
+
+-- built in the longest buffer, and copied out
+pub written-is : (s : State) (buffer : List ℕ) {bytes out : List ℕ} → size s ≤ maxNodes → length buffer ≡ snapshotBytes (size s)
+    → bytes ≡ fillTo (snapshotByte (s .edges) (size s)) (replicate maxSnapshot 0) (snapshotBytes (size s)) → out ≡ tabulate (λ i. getD bytes i 0) (length buffer) → out ≡ snapshotOf s
+unfolding snapshotOf
+written-is s buffer {bytes} {out} few l e q =
+    let f = snapshotByte (s .edges) (size s) in
+    let long : snapshotBytes (size s) ≤ length (replicate {A = ℕ} maxSnapshot 0) = omega (arith, bytes-small (size s) few, length-replicate {A = ℕ} maxSnapshot 0) in
+    q ∙ ap (tabulate (λ i. getD bytes i 0)) l
+    ∙ ext-getD 0 _ _ (length-tabulate _ _ ∙ sym (length-tabulate _ _)) (λ i b.
+    let h : i < snapshotBytes (size s) = omega (arith, length-tabulate (λ i. getD bytes i 0) (snapshotBytes (size s))) in
+    getD-tabulate (λ i. getD bytes i 0) _ i 0 h ∙ ap (λ m. getD m i 0) e ∙ getD-fillTo f (replicate maxSnapshot 0) 0 _ i h long ∙ sym (getD-tabulate f _ i 0 h))
+
+-- ---- how a write ends
+
+module _ (s : State) (buffer : List ℕ) where
+  abbrev conditions : List Condition
+  conditions = writeConditions (size s) (graph s) (length buffer)
+
+  write-refused : {r : ℕ} → r ≡ refusal (lengths s ++ conditions) → (r ≡ 0 → ⊥) → written r buffer ≡ writeCall s buffer
+  unfolding writeCall
+  write-refused {r} e d = rw (sym e, ne-eqb r 0 d)
+
+  pub write-lengths : {r : ℕ} → r ≡ refusal (stateLengths (size s) (length (s .edges)) (length (s .marks))) → (r ≡ 0 → ⊥) → written r buffer ≡ writeCall s buffer
+  unfolding lengths
+  write-lengths e d = write-refused (sym (append-refused (lengths s) conditions (sym e) d)) d
+
+  module _ (f : Fitted (size s) (length (s .edges)) (length (s .marks))) where
+    fitted : refusal (lengths s ++ conditions) ≡ refusal conditions
+    unfolding lengths
+    fitted = fitted-append (size s) (length (s .edges)) (length (s .marks)) conditions f
+
+    pub write-buffer : (length buffer ≡ snapshotBytes (size s) → ⊥) → written 2 buffer ≡ writeCall s buffer
+    write-buffer d = write-refused (sym (fitted ∙ refused-length _ (snapshotBytes (size s)) (length buffer) d)) (λ e. omega arith)
+
+    module _ (l : length buffer ≡ snapshotBytes (size s)) where
+      pub write-crowded : tooMany (graph s) (size s) everyone ≡ true → written 11 buffer ≡ writeCall s buffer
+      write-crowded t =
+          write-refused (sym (fitted ∙ passed-length _ (snapshotBytes (size s)) (length buffer) l ∙ refused-before [] (graph s) (size s) everyone t)) (λ e. omega arith)
+
+      pub write-accepted : tooMany (graph s) (size s) everyone ≡ false → {out : List ℕ} → out ≡ snapshotOf s → written 0 out ≡ writeCall s buffer
+      unfolding writeCall
+      write-accepted t q =
+          rw (fitted ∙ passed-length _ (snapshotBytes (size s)) (length buffer) l ∙ passed-before [] (graph s) (size s) everyone t ∙ refusal-none, q)
+
+-- ---- the same by the byte's place, as code has it
+
+pub first-is : (edges : List ℕ) (n i : ℕ) → n ≤ maxNodes → i ≡ 0 → (n - 1) % 256 ≡ snapshotByte edges n i
+unfolding snapshotByte
+first-is edges n i few e = rw e (mod-eq-of-lt (omega arith))
+
+pub whole-is : (edges : List ℕ) (n i : ℕ) → Bytes edges → (i ≡ 0 → ⊥) → 8 * i ≤ pairCount n → getD edges (i - 1) 0 ≡ snapshotByte edges n i
+whole-is edges n zero small d h = absurd (d refl)
+whole-is edges n (suc k) small d h = let e : suc k - 1 ≡ k = omega arith in rw e (whole-byte edges n k (small k) h)
+
+pub last-is : (edges : List ℕ) (n i : ℕ) {r : ℕ} → Bytes edges → (i ≡ 0 → ⊥) → i < snapshotBytes n → pairCount n < 8 * i
+    → r ≡ getD edges (i - 1) 0 / 2 ^ (8 * i - pairCount n) * 2 ^ (8 * i - pairCount n) → r ≡ snapshotByte edges n i
+last-is edges n zero small d b h q = absurd (d refl)
+last-is edges n (suc k) small d b h q = let e : suc k - 1 ≡ k = omega arith in (rw e at q) ∙ last-byte edges n k (small k) h (omega arith)

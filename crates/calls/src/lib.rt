@@ -1,0 +1,4 @@
+// The calls on a state that edit no edge: clear, load, write and score.
+pub mod clear;
+pub mod score;
+pub mod snapshot;

@@ -1,0 +1,162 @@
+// The calls that load a snapshot and write one.
+use packed::bits::get;
+use packed::degrees::degrees_of;
+use state::crowded::any_among;
+use state::crowded::any_over;
+use state::figures::set_bounds;
+use state::marks::set_stale;
+use state::refusal::CROWDED_AFTER;
+use state::refusal::CROWDED_BEFORE;
+use state::refusal::LENGTH;
+use state::refusal::MALFORMED;
+use state::refusal::OTHER_COUNT;
+use state::sizes::edge_bytes;
+use state::sizes::state_refusal;
+ghost use mathlib.Core.Path.{_≡_};
+ghost use Prim.Native.Nat.{_+_, _*_, _/_, _^_, _≤_, _<_};
+ghost use lib.ListN.{length, getD, drop, replicate};
+ghost use Rattle.arith.specs.Sums.{fillTo, tabulate};
+ghost use Rattle.packed.specs.Pairs.{maxNodes};
+ghost use Rattle.state.specs.Sizes.{edgeBytes, snapshotBytes, maxSnapshot};
+ghost use Rattle.state.specs.Refusal.{refusal, spareSet};
+ghost use Rattle.state.specs.Outcome.{left, state};
+ghost use Rattle.calls.specs.Snapshot.{formConditions, loadCall, snapshotByte, written, writeCall};
+
+// The bytes of a snapshot of 256 nodes.
+const MAX_SNAPSHOT: usize = 4081;
+
+// Whether a bit past the pairs of n nodes is set.
+fn spare_set(edges: &[u8], n: usize) -> bool
+    requires { ⌜ (0 < n) × (n ≤ maxNodes) × (length (now edges) ≡ edgeBytes n) ⌝ }
+    ensures { λ r. ⌜ r ≡ spareSet n (now (edges .entry)) ⌝ }
+{
+    let pairs = n * (n - 1) / 2;
+    for i in pairs..8 * edges.len() {
+        if get(edges, i) {
+            return true;
+        }
+    }
+    false
+}
+
+// Refusals 9 and 10: the snapshot's form, and its number of nodes.
+fn form_refusal(n: usize, snapshot: &[u8]) -> u64
+    ensures { λ r. ⌜ r ≡ refusal (formConditions n (now (snapshot .entry))) ⌝ }
+{
+    if snapshot.len() == 0 {
+        return MALFORMED;
+    }
+    let nodes = snapshot[0] as usize + 1;
+    if snapshot.len() != 1 + edge_bytes(nodes) {
+        return MALFORMED;
+    }
+    let edges = &snapshot[1..];
+    if spare_set(edges, nodes) {
+        return MALFORMED;
+    }
+    if nodes != n {
+        return OTHER_COUNT;
+    }
+    0
+}
+
+// Copies the edges of a snapshot.
+fn copy_edges(edges: &mut [u8], snapshot: &[u8])
+    requires { ⌜ length (now snapshot) ≡ 1 + length (now edges) ⌝ }
+    ensures { λ _. ⌜ now (edges .exit) ≡ drop 1 (now (snapshot .entry)) ⌝ }
+{
+    for i in 0..edges.len() {
+        let at = i + 1;
+        edges[i] = snapshot[at];
+    }
+}
+
+// Takes the edges of a snapshot; every node takes its bound and becomes stale.
+pub fn load(edges: &mut [u8], figures: &mut [u64], marks: &mut [u8], snapshot: &[u8]) -> u64
+    ensures { λ r. ⌜ left r (now (edges .exit)) (now (figures .exit)) (now (marks .exit)) ≡ loadCall (state (now (edges .entry)) (now (figures .entry)) (now (marks .entry))) (now (snapshot .entry)) ⌝ }
+{
+    let n = figures.len();
+    let lengths = state_refusal(n, edges.len(), marks.len());
+    if lengths != 0 {
+        return lengths;
+    }
+    let form = form_refusal(n, snapshot);
+    if form != 0 {
+        return form;
+    }
+    let degrees = degrees_of(&snapshot[1..], n);
+    if any_among(&degrees[..], n) {
+        return CROWDED_AFTER;
+    }
+    copy_edges(edges, snapshot);
+    set_bounds(&degrees[..], figures);
+    set_stale(marks, n);
+    0
+}
+
+// A byte without its lowest bits.
+fn trimmed(x: u8, spare: usize) -> u8
+    requires { ⌜ spare < 8 ⌝ }
+    ensures { λ r. ⌜ r ≡ x / 2 ^ spare * 2 ^ spare ⌝ }
+{
+    (x >> spare) << spare
+}
+
+// Byte i of the snapshot of n nodes.
+fn snapshot_byte(edges: &[u8], n: usize, i: usize) -> u8
+    requires { ⌜ (0 < n) × (n ≤ maxNodes) × (length (now edges) ≡ edgeBytes n) × (i < snapshotBytes n) ⌝ }
+    ensures { λ r. ⌜ r ≡ snapshotByte (now (edges .entry)) n i ⌝ }
+{
+    if i == 0 {
+        return ((n - 1) % 256) as u8;
+    }
+    let pairs = n * (n - 1) / 2;
+    let x = edges[i - 1];
+    if 8 * i <= pairs {
+        return x;
+    }
+    trimmed(x, 8 * i - pairs)
+}
+
+// The snapshot of n nodes, in a buffer that has room for the longest.
+fn build(edges: &[u8], n: usize) -> [u8; MAX_SNAPSHOT]
+    requires { ⌜ (0 < n) × (n ≤ maxNodes) × (length (now edges) ≡ edgeBytes n) ⌝ }
+    ensures { λ r. ⌜ r ≡ fillTo (snapshotByte (now (edges .entry)) n) (replicate maxSnapshot 0) (snapshotBytes n) ⌝ }
+{
+    let mut bytes = [0u8; MAX_SNAPSHOT];
+    let end = 1 + edge_bytes(n);
+    for i in 0..end {
+        bytes[i] = snapshot_byte(edges, n, i);
+    }
+    bytes
+}
+
+// Copies the first bytes of a snapshot out.
+fn copy_out(snapshot: &mut [u8], bytes: [u8; MAX_SNAPSHOT])
+    requires { ⌜ length (now snapshot) ≤ maxSnapshot ⌝ }
+    ensures { λ _. ⌜ now (snapshot .exit) ≡ tabulate (λ i. getD bytes i 0) (length (now (snapshot .entry))) ⌝ }
+{
+    for i in 0..snapshot.len() {
+        snapshot[i] = bytes[i];
+    }
+}
+
+// Writes the snapshot of a state to a buffer of exactly its length.
+pub fn write(edges: &[u8], figures: &[u64], marks: &[u8], snapshot: &mut [u8]) -> u64
+    ensures { λ r. ⌜ written r (now (snapshot .exit)) ≡ writeCall (state (now (edges .entry)) (now (figures .entry)) (now (marks .entry))) (now (snapshot .entry)) ⌝ }
+{
+    let n = figures.len();
+    let lengths = state_refusal(n, edges.len(), marks.len());
+    if lengths != 0 {
+        return lengths;
+    }
+    if snapshot.len() != 1 + edge_bytes(n) {
+        return LENGTH;
+    }
+    if any_over(edges, n) {
+        return CROWDED_BEFORE;
+    }
+    let bytes = build(edges, n);
+    copy_out(snapshot, bytes);
+    0
+}

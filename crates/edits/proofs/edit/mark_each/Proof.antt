@@ -1,0 +1,65 @@
+-- `edits::edit::mark_each` meets its contract. After i turns the first i nodes are stale. Assumes nothing.
+use mathlib.Core.Path.{ap, sym, _∙_, _≡_}
+use Prim.Native.Nat.{_-_, _≤_}
+use native.Mathlib.Nat.{le-antisymm}
+use native.Mathlib.Omega.{arith}
+use denote.Ref.{now}
+use lib.ListN.{length}
+use Rattle.edits.proofs.ListedLaws.{length-stale-each, stale-each-more, stale-each-none}
+use Rattle.edits.specs.Touched.{staleEach}
+use Rattle.edits.proofs.edit.mark_each.Statement.{statement}
+use Rattle.edits.proofs.edit.mark_each.Tie as tie
+
+abbrev Inv-loop : tie.InvT-loop
+Inv-loop marks₀ count nodes i₀ marks i = (i ≤ count) × (marks ≡ staleEach nodes marks₀ i)
+
+abbrev μ-loop : tie.MeasureT-loop
+μ-loop marks₀ count nodes i₀ marks i = count - i
+
+loop-holds : tie.Need-loop-holds Inv-loop μ-loop
+loop-holds c = (omega arith, sym (stale-each-none _ _))
+
+array-read-put : tie.Need-array-read-put Inv-loop μ-loop
+array-read-put c = omega arith
+
+cast-put : tie.Need-cast-put Inv-loop μ-loop
+cast-put c = omega (arith, c .before .before .before .before .pre .1 (c .before .before .loop .i) (c .before .loop-test .taken) .0)
+
+put-requires : tie.Need-put-requires Inv-loop μ-loop
+put-requires c κs =
+    let s = c .before .before .before .before in
+    let at = c .before .before .loop in
+    omega (arith, s .pre .1 (at .i) (c .before .loop-test .taken) .1, ap length (at .inv .1), length-stale-each (s .args .t2) (now (s .args .marks)) (at .i))
+
+add-i : tie.Need-add-i Inv-loop μ-loop
+add-i c = omega arith
+
+loop-less : tie.Need-loop-less Inv-loop μ-loop
+loop-less c = omega arith
+
+loop-again : tie.Need-loop-again Inv-loop μ-loop
+loop-again c =
+    let at = c .before .before .before .before .before .loop in
+    (omega arith, stale-each-more _ _ (at .i) (at .inv .1) (c .before .before .put .ensures))
+
+same-length : tie.Need-same-length Inv-loop μ-loop
+same-length c = ap length (c .before .loop .inv .1) ∙ length-stale-each _ _ (c .before .loop .i)
+
+returns : tie.Need-returns Inv-loop μ-loop
+returns c = c .before .loop .inv .1 ∙ ap (staleEach _ _) (le-antisymm (c .before .loop .inv .0) (c .loop-test .left))
+
+pub mark-each-spec : {M : Type 1} → statement M
+mark-each-spec =
+    tie.close
+    (tie.spec
+    Inv-loop
+    μ-loop
+    loop-holds
+    array-read-put
+    cast-put
+    put-requires
+    add-i
+    loop-less
+    loop-again
+    same-length
+    returns)

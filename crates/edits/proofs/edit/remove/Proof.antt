@@ -1,0 +1,139 @@
+-- `edits::edit::remove` meets its contract. Assumes nothing.
+use mathlib.Core.Bool.{true}
+use mathlib.Core.List.{_++_, [], _∷_}
+use mathlib.Core.Path.{ap, refl, sym, _∙_}
+use native.Mathlib.Nat.{le-refl}
+use native.Mathlib.Omega.{arith}
+use borrow.Author.Needs.{needs}
+use denote.Ref.{now}
+use lib.ListN.{length}
+use Rattle.ego.specs.Graph.{degree}
+use Rattle.packed.proofs.PairLaws.{room-within}
+use Rattle.packed.specs.Edges.{edge}
+use Rattle.edits.proofs.ApplyLaws.{bound-ready, lost-at, lost-ready, mark-ready, Pair, present-by, remove-accepted, remove-crowded, removed-by}
+use Rattle.calls.proofs.OutcomeLaws.{call-accepted, call-refused, lengths-refused}
+use Rattle.edits.proofs.PairRefusals.{editable, pairConditions}
+use Rattle.state.proofs.RefusalLaws.{append-refused, Fitted, fitted-by, sized-room}
+use Rattle.edits.specs.Edit.{Editable, removeCall}
+use Rattle.state.specs.Outcome.{state}
+use Rattle.state.specs.Refusal.{edgeAbsent}
+use Rattle.state.specs.State.{State}
+use Rattle.edits.proofs.edit.remove.Statement.{statement}
+use Rattle.edits.proofs.edit.remove.Tie as tie
+
+-- the state before the call
+abbrev given : tie.Start → State
+given c = state (now (c .args .edges)) (now (c .args .figures)) (now (c .args .marks))
+
+-- lengths that are accepted, and then the pair
+fits : (c : tie.Else1) → Fitted (length (now (c .before .before .before .before .before .args .figures))) (length (now (c .before .before .before .before .before .args .edges))) (length (now (c .before .before .before .before .before .args .marks)))
+fits c = fitted-by (c .before .state-refusal .ensures) (c .if1 .left)
+
+pair : (c : tie.Else2) → Pair (edge (now (c .before .before .before .before .before .before .before .before .args .edges))) (length (now (c .before .before .before .before .before .before .before .before .args .figures))) (c .before .before .before .before .before .before .before .before .args .a) (c .before .before .before .before .before .before .before .before .args .b) true
+pair c = present-by (c .before .remove-refusal .ensures) (c .if2 .left)
+
+room : (c : tie.Else2) → Editable (given (c .before .before .before .before .before .before .before .before)) (c .before .before .before .before .before .before .before .before .args .a) (c .before .before .before .before .before .before .before .before .args .b)
+room c = editable (fits (c .before .before .before)) (pair c .nodes)
+
+state-refusal-requires : tie.Need-state-refusal-requires
+state-refusal-requires c κs = search needs
+
+returns : tie.Need-returns
+unfolding removeCall
+returns c = lengths-refused (given (c .before .before .before .before .before)) _ _ (c .before .state-refusal .ensures) (c .if1 .taken)
+
+remove-refusal-requires : tie.Need-remove-refusal-requires
+remove-refusal-requires c κs = sized-room (fits (c .before) .sizes)
+
+same-length : tie.Need-same-length
+same-length c = search needs
+
+returns-2 : tie.Need-returns-2
+unfolding removeCall
+returns-2 c =
+    let s = c .before .before .before .before .before .before .before .before in
+    let cs = pairConditions (length (now (s .args .figures))) (s .args .a) (s .args .b) ++ edgeAbsent (edge (now (s .args .edges))) (s .args .a) (s .args .b) ∷ [] in
+    call-refused (given s) _ _ (fits (c .before .before .before)) (sym (append-refused cs _ (sym (c .before .remove-refusal .ensures)) (c .if2 .taken))) (c .if2 .taken)
+
+touched-of-requires : tie.Need-touched-of-requires
+touched-of-requires c κs =
+    let e = room (c .before) in
+    (e .firstBelow, e .secondBelow, e .room)
+
+degrees-of-requires : tie.Need-degrees-of-requires
+degrees-of-requires c κs =
+    let found = c .before .before .touched-of .ensures in
+    let t = found .0 in
+    (room (c .before .before .before .before) .room, found .1 ∙ ap (degree _ _) (sym (t .first)), omega (arith, t .two), t .few, t .below)
+
+any-above-requires : tie.Need-any-above-requires
+any-above-requires c κs = c .before .before .before .touched-of .ensures .0 .few
+
+same-length-2 : tie.Need-same-length-2
+same-length-2 c = search needs
+
+returns-3 : tie.Need-returns-3
+unfolding removeCall
+returns-3 c =
+    call-refused (given (c .before .before .before .before .before .before .before .before .before .before .before .before .before .before .before)) _ _ (fits (c .before .before .before .before .before .before .before .before .before .before))
+    (remove-crowded (room (c .before .before .before .before .before .before .before) .room) (c .before .before .before .before .before .touched-of .ensures .0) (c .before .before .degrees-of .ensures) (pair (c .before .before .before .before .before .before .before)) (sym (c .before .any-above .ensures) ∙ c .if3 .taken)) (λ e. omega arith)
+
+link-requires : tie.Need-link-requires
+link-requires c κs =
+    let s = c .before .before .before .before .before .before .before .before .before .before .before .before .before .before .before .before in
+    let e = room (c .before .before .before .before .before .before .before .before) in
+    room-within (s .args .a) (s .args .b) _ _ (e .firstBelow) (e .secondBelow) (e .room)
+
+mark-each-requires : tie.Need-mark-each-requires
+mark-each-requires c κs = mark-ready (room (c .before .before .before .before .before .before .before .before .before .before .before .before)) (c .before .before .before .before .before .before .before .before .before .before .touched-of .ensures .0)
+
+lost-requires : tie.Need-lost-requires
+lost-requires c κs = lost-ready (room (c .before .before .before .before .before .before .before .before .before .before .before .before .before .before .before .before) .room) (c .before .before .before .before .before .before .before .before .before .before .before .before .before .before .touched-of .ensures .0) (c .before .before .before .before .before .before .before .before .before .before .before .degrees-of .ensures) (pair (c .before .before .before .before .before .before .before .before .before .before .before .before .before .before .before .before))
+
+bound-each-requires : tie.Need-bound-each-requires
+bound-each-requires c κs =
+    let e = room (c .before .before .before .before .before .before .before .before .before .before .before .before .before .before .before .before .before) in
+    let t = c .before .before .before .before .before .before .before .before .before .before .before .before .before .before .before .touched-of .ensures .0 in
+    bound-ready e t (le-refl _) (lost-at (e .room) t (c .before .before .before .before .before .before .before .before .before .before .before .before .degrees-of .ensures) (pair (c .before .before .before .before .before .before .before .before .before .before .before .before .before .before .before .before .before)) (c .before .before .before .before .before .before .before .before .link .ensures) (c .lost .ensures))
+
+same-length-3 : tie.Need-same-length-3
+same-length-3 c = search needs
+
+same-length-4 : tie.Need-same-length-4
+same-length-4 c = search needs
+
+same-length-5 : tie.Need-same-length-5
+same-length-5 c = search needs
+
+returns-4 : tie.Need-returns-4
+unfolding removeCall
+returns-4 c =
+    let e = room (c .before .before .before .before .before .before .before .before .before .before .before .before .before .before .before .before .before .before .before .before) in
+    let t = c .before .before .before .before .before .before .before .before .before .before .before .before .before .before .before .before .before .before .touched-of .ensures .0 in
+    let d = c .before .before .before .before .before .before .before .before .before .before .before .before .before .before .before .degrees-of .ensures in
+    let p = pair (c .before .before .before .before .before .before .before .before .before .before .before .before .before .before .before .before .before .before .before .before) in
+    call-accepted (given (c .before .before .before .before .before .before .before .before .before .before .before .before .before .before .before .before .before .before .before .before .before .before .before .before .before .before .before .before)) _ _ (fits (c .before .before .before .before .before .before .before .before .before .before .before .before .before .before .before .before .before .before .before .before .before .before .before)) (remove-accepted (e .room) t d p (sym (c .before .before .before .before .before .before .before .before .before .before .before .before .before .before .any-above .ensures) ∙ c .before .before .before .before .before .before .before .before .before .before .before .before .before .if3 .left)) refl
+    (removed-by e t (λ k. c .before .before .before .before .before .before .before .before .before .before .before .before .before .before .before .before .before .before .before .before .before .before .before .before .before .slice-known3 .given k .fits) (c .before .before .before .before .before .before .before .mark-each .ensures) (c .before .before .before .before .before .before .before .before .before .before .before .link .ensures) (lost-at (e .room) t d p (c .before .before .before .before .before .before .before .before .before .before .before .link .ensures) (c .before .before .before .lost .ensures)) (c .before .before .bound-each .ensures))
+
+pub remove-spec : {M : Type 1} → statement M
+remove-spec =
+    tie.close
+    (tie.spec
+    state-refusal-requires
+    returns
+    remove-refusal-requires
+    same-length
+    returns-2
+    touched-of-requires
+    degrees-of-requires
+    any-above-requires
+    same-length-2
+    returns-3
+    link-requires
+    mark-each-requires
+    lost-requires
+    bound-each-requires
+    same-length-3
+    same-length-4
+    same-length-5
+    returns-4)

@@ -1,0 +1,3 @@
+// The calls that add and remove an edge.
+pub mod edit;
+pub mod touched;

@@ -1,0 +1,2 @@
+-- The list over records.
+pub mod Records

@@ -1,0 +1,2 @@
+// The list over entries that are lent as records.
+pub mod records;

@@ -1,0 +1,95 @@
+// The list over entries that are lent as records: one thin function over the list on plain numbers.
+use packed::edges::MAX_NODES;
+use topk::entries::Entry;
+use topk::list::Answer;
+use topk::list::list;
+ghost use mathlib.Core.Path.{_≡_};
+ghost use Prim.Native.Nat.{_*_, _<_, min};
+ghost use lib.ListN.{length};
+ghost use Rattle.state.specs.Outcome.{state};
+ghost use Rattle.listing.specs.Records.{recording, entriesCall, rows, entryIn, Gathered};
+
+// The entries that a table has room for: one more than there can be nodes.
+pub const ROWS: usize = MAX_NODES + 1;
+
+// A list's answer, how many entries it wrote, which is 0 beside a refusal, and the entries in a row.
+pub struct Table {
+    pub answer: Answer,
+    pub used: usize,
+    pub numbers: [u64; 2 * ROWS],
+}
+
+// Numbers for a table.
+fn blank() -> [u64; 2 * ROWS]
+    ensures { λ r. ⌜ length r ≡ 2 * rows ⌝ }
+{
+    [0; 2 * ROWS]
+}
+
+// How many rows a list of k entries takes. More than a table has are refused as one too many is.
+fn rows_of(k: usize) -> usize
+    ensures { λ r. ⌜ r ≡ min k rows ⌝ }
+{
+    if k < ROWS { k } else { ROWS }
+}
+
+// The list of k entries, on plain numbers.
+fn gather(
+    edges: &[u8],
+    figures: &mut [u64],
+    marks: &mut [u8],
+    scratch: &mut [u8],
+    k: usize,
+) -> Table
+    ensures { λ r. ⌜ Gathered (state (now (edges .entry)) (now (figures .entry)) (now (marks .entry))) (now (scratch .entry)) k r (state (now (edges .entry)) (now (figures .exit)) (now (marks .exit))) (now (scratch .exit)) ⌝ }
+{
+    let mut numbers = blank();
+    let end = 2 * rows_of(k);
+    let answer = list(edges, figures, marks, &mut numbers[..end], scratch);
+    let refusal = answer.refusal;
+    if refusal != 0 {
+        return Table {
+            answer,
+            used: 0,
+            numbers,
+        };
+    }
+    Table {
+        answer,
+        used: k,
+        numbers,
+    }
+}
+
+// Entry i of a table.
+fn row(t: Table, i: usize) -> Entry
+    requires { ⌜ i < rows ⌝ }
+    ensures { λ r. ⌜ r ≡ entryIn (t .numbers) i ⌝ }
+{
+    let numbers = t.numbers;
+    let j = 2 * i;
+    let node = numbers[j];
+    let h = j + 1;
+    let figure = numbers[h];
+    Entry { node, figure }
+}
+
+// The list: the best k nodes go to the k entries that are lent. The scratch has a byte for each node or more.
+pub fn list_entries(
+    edges: &[u8],
+    figures: &mut [u64],
+    marks: &mut [u8],
+    entries: &mut [Entry],
+    scratch: &mut [u8],
+) -> Answer
+    ensures { λ r. ⌜ recording (r .refusal) (r .recomputed) (state (now (edges .entry)) (now (figures .exit)) (now (marks .exit))) (now (entries .exit)) (now (scratch .exit)) ≡ entriesCall (state (now (edges .entry)) (now (figures .entry)) (now (marks .entry))) (now (entries .entry)) (now (scratch .entry)) ⌝ }
+{
+    let t = gather(edges, figures, marks, scratch, entries.len());
+    let used = t.used;
+    let mut i: usize = 0;
+    while i < used {
+        entries[i] = row(t, i);
+        i += 1;
+    }
+    t.answer
+}

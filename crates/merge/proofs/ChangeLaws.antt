@@ -1,0 +1,193 @@
+-- What the loops pass over, the pairs that theirs has not changed, and the edges after the call byte by byte, in the shape of the loops' needs.
+-- Assumes nothing.
+use mathlib.Core.Bool.{_&&_, Bool, cond, false, true}
+use mathlib.Core.List.{List}
+use mathlib.Core.Path.{ap, ap₂, refl, sym, _∙_, _≡_}
+use Prim.Native.Nat.{_%_, _+_, _-_, _/_, _<_, suc, zero, zero-le, ℕ, _≤_}
+use native.Mathlib.Decide.{ℕ-discrete}
+use native.Mathlib.Omega.{arith}
+use borrow.Author.Tests.{eqb-true}
+use lib.Bits.{and-le-l, and-le-r, and-lt, bitAnd, bitOr, bitXor, or-add-and, xor-add-and, xor-lt}
+use lib.Dec.{eqb}
+use lib.ListN.{getD, length, length-replicate, replicate}
+use Rattle.arith.proofs.Sums.{getD-fillTo, length-fillTo}
+use Rattle.arith.proofs.Words.{bit-and, pack-bit, pack-is}
+use Rattle.arith.specs.Digits.{bitOf}
+use Rattle.ego.proofs.Agreement.{Agree}
+use Rattle.ego.specs.Graph.{Graph}
+use Rattle.merge.proofs.MergeLaws.{merged-is}
+use Rattle.merge.proofs.PairOrder.{pair-number}
+use Rattle.merge.proofs.StepLaws.{aligned-base, aligned-theirs, in-untaken, out-untaken, row-none}
+use Rattle.merge.specs.Reconcile.{merged, overRow, takes}
+use Rattle.merge.specs.Steps.{Aligned, maxEdgeBytes, mergedByte, mergedEdges, putIn, SameRow, takenOut}
+use Rattle.packed.proofs.EdgeLaws.{edge-self, edge-two}
+use Rattle.packed.proofs.FirstLaws.{bit-xor}
+use Rattle.packed.proofs.PairLaws.{pair-lt, room-mono}
+use Rattle.packed.proofs.RowLaws.{row-within}
+use Rattle.packed.specs.Bits.{bitAt, differ, FirstFrom}
+use Rattle.packed.specs.Edges.{edge}
+use Rattle.packed.specs.Pairs.{maxNodes, pairCount, pairIndex, Room}
+use Rattle.edits.proofs.SameRefusal.{tooMany-agree}
+use Rattle.calls.proofs.SnapshotLaws.{bytes-small}
+use Rattle.state.specs.Refusal.{everyone, tooMany}
+use Rattle.state.specs.Sizes.{edgeBytes}
+use Rattle.state.specs.State.{graph, State}
+
+-- ---- the bytes and the rows, as the code computes them
+
+pub bytes-within : {n m i : ℕ} {es : List ℕ} → Room n es → m ≡ edgeBytes n → i < m → i < length es
+bytes-within r e h = omega (arith, r .bits)
+
+-- the lengths of the loops give the row of b room
+pub row-rooms : {b n edges marks : ℕ} {theirs base : List ℕ} → b < n → Aligned n edges marks (length theirs) (length base) → Room (b + 1) theirs × Room (b + 1) base
+row-rooms {theirs = theirs} {base = base} l w = (room-mono (omega arith) (aligned-theirs w theirs refl), room-mono (omega arith) (aligned-base w base refl))
+
+-- a walk over it from a on
+pub row-from : {a b n edges marks : ℕ} {theirs base : List ℕ} → a ≤ b → b < n → Aligned n edges marks (length theirs) (length base)
+    → (a ≤ b) × Room (b + 1) theirs × Room (b + 1) base
+row-from h l w = let r = row-rooms l w in (h, r .0, r .1)
+
+-- a byte of the row of b
+pub row-byte : (b : ℕ) {es : List ℕ} {start k : ℕ} → Room (b + 1) es → start ≡ pairCount b → k < (start + b + 7) / 8 → k < length es
+row-byte b r e h = omega (arith, row-within b r)
+
+-- ---- the pairs of b, where the bytes that hold them are the same
+
+nothing-or : (a b : ℕ) → bitOr a b ≡ 0 → (a ≡ 0) × (b ≡ 0)
+nothing-or a b e = (omega (arith, or-add-and a b, and-le-r a b), omega (arith, or-add-and a b, and-le-l a b))
+
+nothing-xor : (a b : ℕ) → bitXor a b ≡ 0 → a ≡ b
+nothing-xor a b e = omega (arith, xor-add-and a b, and-le-l a b, and-le-r a b)
+
+-- the bytes from `first` on and below k are the same where nothing was collected
+abbrev pub Collected : List ℕ → List ℕ → ℕ → ℕ → ℕ → Type 0
+Collected xs ys first other k = other ≡ 0 → (i : ℕ) → first ≤ i → i < k → getD xs i 0 ≡ getD ys i 0
+
+pub collect-none : (xs ys : List ℕ) {first k : ℕ} → k ≡ first → Collected xs ys first 0 k
+collect-none xs ys e z i a b = absurd (omega arith)
+
+pub collect-more : (xs ys : List ℕ) {first other k : ℕ} → Collected xs ys first other k → Collected xs ys first (bitOr other (bitXor (getD xs k 0) (getD ys k 0))) (k + 1)
+collect-more xs ys {first} {other} {k} h z i a b =
+    let none = nothing-or other (bitXor (getD xs k 0) (getD ys k 0)) z in
+    elim (ℕ-discrete i k) [
+      | yes e ↦ rw e (nothing-xor (getD xs k 0) (getD ys k 0) (none .1))
+      | no d ↦ h (none .0) i a (omega arith)
+    ]
+
+pub collected-row : (theirs base : List ℕ) (b : ℕ) {start end other k : ℕ} → start ≡ pairCount b → end ≡ (start + b + 7) / 8 → end ≤ k
+    → Collected theirs base (start / 8) other k → eqb other 0 ≡ true → SameRow (edge theirs) (edge base) b
+unfolding bitAt
+collected-row theirs base b {start} {end} {other} {k} e f l h t a m =
+    let d : a ≡ b → ⊥ = λ q. omega arith in
+    let i : ℕ = pairCount b + a in
+    let same : getD theirs (i / 8) 0 ≡ getD base (i / 8) 0 = h (eqb-true other 0 t) (i / 8) (omega arith) (omega arith) in
+    edge-two theirs a b d ∙ ap (bitAt theirs) (pair-number a b m) ∙ ap (λ x. bitOf x (7 - i % 8)) same ∙ sym (ap (bitAt base) (pair-number a b m)) ∙ sym (edge-two base a b d)
+
+-- ---- the next pair of b that theirs has changed
+
+-- theirs has changed the pair a, b
+abbrev pub changed : Graph → Graph → ℕ → ℕ → Bool
+changed theirs base b a = differ (theirs a b) (base a b)
+
+module _ (theirs base : List ℕ) (b : ℕ) where
+  -- the bits of the row of b are its pairs with the nodes below it
+  row-bit : (a : ℕ) → a < b → changed (edge theirs) (edge base) b a ≡ differ (bitAt theirs (pairCount b + a)) (bitAt base (pairCount b + a))
+  row-bit a h =
+      let d : a ≡ b → ⊥ = λ e. omega arith in
+      rw (edge-two theirs a b d, edge-two base a b d, pair-number a b h)
+
+  pub next-in-row : {a r start : ℕ} → start ≡ pairCount b
+      → FirstFrom (λ i. differ (bitAt theirs i) (bitAt base i)) (start + a) (start + b) r → FirstFrom (changed (edge theirs) (edge base) b) a b (r - start)
+  next-in-row {a} {r} {start} e f = record {
+    start = omega (arith, f .start);
+    stop = omega (arith, f .stop);
+    none = λ i h l. row-bit i (omega (arith, f .stop)) ∙ f .none (pairCount b + i) (omega arith) (omega arith);
+    some = λ l. row-bit (r - start) l ∙ ap (λ i. differ (bitAt theirs i) (bitAt base i)) (omega (arith, f .start)) ∙ f .some (omega (arith, f .start));
+  }
+
+-- ---- the pairs between are as they were
+
+module _ (theirs base : Graph) (a b : ℕ) (s : State) (e : changed theirs base b a ≡ false) where
+  untaken : takes (graph s) theirs base a b ≡ false
+  unfolding takes
+  untaken = rw e
+
+  pub out-unchanged : s ≡ takenOut theirs base a b s
+  out-unchanged = out-untaken theirs base a b s untaken
+
+  pub in-unchanged : s ≡ putIn theirs base a b s
+  in-unchanged = in-untaken theirs base a b s untaken
+
+differ-same : {x y : Bool} → x ≡ y → differ x y ≡ false
+differ-same {x} e = rw (← e) (self x)
+  where
+    self : (x : Bool) → differ x x ≡ false
+    self true = refl
+    self false = refl
+
+pub same-unchanged : (theirs base : Graph) (b : ℕ) → SameRow theirs base b → (a : ℕ) → a < b → changed theirs base b a ≡ false
+same-unchanged theirs base b h a l = differ-same (h a l)
+
+module _ (change : ℕ → ℕ → State → State) (s : State) (b : ℕ) (test : ℕ → Bool) (stays : (a : ℕ) (t : State) → test a ≡ false → t ≡ change a b t) where
+  row-skip : (m a : ℕ) → a ≤ m → ((i : ℕ) → a ≤ i → i < m → test i ≡ false) → overRow change b a s ≡ overRow change b m s
+  unfolding overRow
+  row-skip zero a h none = let e : a ≡ 0 = omega arith in ap (λ k. overRow change b k s) e
+  row-skip (suc m) a h none = elim (ℕ-discrete a (suc m)) [
+    | yes e ↦ ap (λ k. overRow change b k s) e
+    | no d ↦ row-skip m a (omega arith) (λ i p q. none i p (omega arith)) ∙ stays m (overRow change b m s) (none m (omega arith) (omega arith))
+  ]
+
+  -- a row of which no pair passes the test
+  pub row-stays : ((i : ℕ) → i < b → test i ≡ false) → s ≡ overRow change b b s
+  row-stays none = row-none change s b ∙ row-skip b 0 zero-le (λ i p q. none i q)
+
+  -- up to the next pair that passes the test nothing is left to do
+  pub row-next : {a r : ℕ} {t : State} → t ≡ overRow change b a s → FirstFrom test a b r → t ≡ overRow change b r s
+  row-next {a} {r} e f = e ∙ row-skip r a (f .start) (f .none)
+
+-- ---- a byte of the edges after the call
+
+chosen : (m t o : Bool) → differ m (differ t o && differ t m) ≡ cond (differ t o) t m
+chosen true true true = refl
+chosen true true false = refl
+chosen true false true = refl
+chosen true false false = refl
+chosen false true true = refl
+chosen false true false = refl
+chosen false false true = refl
+chosen false false false = refl
+
+pub merged-byte-is : (m t o : ℕ) → m < 256 → t < 256 → o < 256 → bitXor m (bitAnd (bitXor t o) (bitXor t m)) ≡ mergedByte m t o
+unfolding mergedByte
+merged-byte-is m t o hm ht ho =
+    let both = bitAnd (bitXor t o) (bitXor t m) in
+    pack-is 8 (bitXor m both) _ (xor-lt 8 m both hm (and-lt 8 (bitXor t o) (bitXor t m) (xor-lt 8 t o ht ho) (xor-lt 8 t m ht hm))) (λ k l.
+    bit-xor m both k
+    ∙ ap (differ (bitOf m k)) (bit-and (bitXor t o) (bitXor t m) k ∙ ap₂ (λ x y. x && y) (bit-xor t o k) (bit-xor t m k))
+    ∙ chosen (bitOf m k) (bitOf t k) (bitOf o k))
+
+-- ---- the edges after the call
+
+module _ (mine theirs base : List ℕ) (n : ℕ) (few : n ≤ maxNodes) where
+  merged-bit : (i : ℕ) → i < pairCount n → bitAt (mergedEdges mine theirs base n) i ≡ cond (differ (bitAt theirs i) (bitAt base i)) (bitAt theirs i) (bitAt mine i)
+  unfolding bitAt mergedEdges mergedByte
+  merged-bit i h =
+      let k : ℕ = 7 - i % 8 in
+      let f : ℕ → ℕ = λ k. mergedByte (getD mine k 0) (getD theirs k 0) (getD base k 0) in
+      ap (λ x. bitOf x k) (getD-fillTo f (replicate maxEdgeBytes 0) 0 (edgeBytes n) (i / 8) (omega arith) (omega (arith, bytes-small n few, length-replicate {A = ℕ} maxEdgeBytes 0)))
+      ∙ pack-bit (λ j. cond (differ (bitOf (getD theirs (i / 8) 0) j) (bitOf (getD base (i / 8) 0) j)) (bitOf (getD theirs (i / 8) 0) j) (bitOf (getD mine (i / 8) 0) j)) 8 k (omega arith)
+
+  pub length-merged : length (mergedEdges mine theirs base n) ≡ maxEdgeBytes
+  unfolding mergedEdges
+  length-merged = length-fillTo _ (replicate maxEdgeBytes 0) (edgeBytes n) ∙ length-replicate {A = ℕ} maxEdgeBytes 0
+
+  merged-edges-agree : Agree n (edge (mergedEdges mine theirs base n)) (merged (edge mine) (edge theirs) (edge base))
+  merged-edges-agree a b ha hb = elim (ℕ-discrete a b) [
+    | yes e ↦ edge-self (mergedEdges mine theirs base n) a b e ∙ sym (merged-is (edge mine) (edge theirs) (edge base) a b ∙ rw (edge-self mine a b e, edge-self theirs a b e, edge-self base a b e))
+    | no d ↦ edge-two (mergedEdges mine theirs base n) a b d ∙ merged-bit (pairIndex a b) (pair-lt a b n d ha hb)
+        ∙ sym (merged-is (edge mine) (edge theirs) (edge base) a b ∙ rw (edge-two mine a b d, edge-two theirs a b d, edge-two base a b d))
+  ]
+
+  pub over-after-is : {r : Bool} {after : List ℕ} → after ≡ mergedEdges mine theirs base n → r ≡ tooMany (edge after) n everyone
+      → r ≡ tooMany (merged (edge mine) (edge theirs) (edge base)) n everyone
+  over-after-is e f = f ∙ ap (λ es. tooMany (edge es) n everyone) e ∙ tooMany-agree n _ _ everyone everyone merged-edges-agree (λ p l. refl)

@@ -1,0 +1,76 @@
+-- `merge::merged::row_same` meets its contract. Where nothing is collected after the turn of k the bytes up to k are the same. Assumes nothing.
+use mathlib.Core.Path.{refl}
+use Prim.Native.Nat.{_-_, _/_}
+use native.Mathlib.Omega.{arith}
+use denote.Ref.{now}
+use Rattle.merge.proofs.ChangeLaws.{collect-more, collect-none, Collected, collected-row, row-byte}
+use Rattle.packed.proofs.RowLaws.{row-few}
+use Rattle.merge.proofs.merged.row_same.Statement.{statement}
+use Rattle.merge.proofs.merged.row_same.Tie as tie
+
+abbrev Inv-loop : tie.InvT-loop
+Inv-loop theirs base b start end other₀ k₀ other k = Collected theirs base (start / 8) other k
+
+abbrev μ-loop : tie.MeasureT-loop
+μ-loop theirs base b start end other₀ k₀ other k = end - k
+
+row-start-requires : tie.Need-row-start-requires Inv-loop μ-loop
+row-start-requires c κs = omega (arith, c .before .before .pre .0 .few)
+
+add-end : tie.Need-add-end Inv-loop μ-loop
+add-end c =
+    let s = c .before .before .before in
+    omega (arith, row-few (s .args .b) (s .pre .0), c .row-start .ensures)
+
+add-end-2 : tie.Need-add-end-2 Inv-loop μ-loop
+add-end-2 c =
+    let s = c .before .before .before in
+    omega (arith, row-few (s .args .b) (s .pre .0), c .row-start .ensures)
+
+loop-holds : tie.Need-loop-holds Inv-loop μ-loop
+loop-holds c =
+    let s = c .before .before .before in
+    collect-none (now (s .args .theirs)) (now (s .args .base)) refl
+
+shared-slice-read-other : tie.Need-shared-slice-read-other Inv-loop μ-loop
+shared-slice-read-other c =
+    let s = c .before .before .before .before .before .before in
+    row-byte (s .args .b) (s .pre .0) (c .before .before .before .row-start .ensures) (c .before .loop-test .taken)
+
+shared-slice-read-other-2 : tie.Need-shared-slice-read-other-2 Inv-loop μ-loop
+shared-slice-read-other-2 c =
+    let s = c .before .before .before .before .before .before .before in
+    row-byte (s .args .b) (s .pre .1) (c .before .before .before .before .row-start .ensures) (c .before .before .loop-test .taken)
+
+add-k : tie.Need-add-k Inv-loop μ-loop
+add-k c = omega arith
+
+loop-less : tie.Need-loop-less Inv-loop μ-loop
+loop-less c = omega arith
+
+loop-again : tie.Need-loop-again Inv-loop μ-loop
+loop-again c =
+    let s = c .before .before .before .before .before .before .before in
+    collect-more (now (s .args .theirs)) (now (s .args .base)) (c .before .before .before .loop .inv)
+
+returns : tie.Need-returns Inv-loop μ-loop
+returns c =
+    let s = c .before .before .before .before .before in
+    collected-row (now (s .args .theirs)) (now (s .args .base)) (s .args .b) (c .before .before .row-start .ensures) refl (c .loop-test .left) (c .before .loop .inv)
+
+pub row-same-spec : {M : Type 1} → statement M
+row-same-spec =
+    tie.close
+    (tie.spec
+    Inv-loop
+    μ-loop
+    row-start-requires
+    add-end
+    add-end-2
+    loop-holds
+    shared-slice-read-other
+    shared-slice-read-other-2
+    add-k
+    loop-less
+    loop-again
+    returns)

@@ -1,0 +1,166 @@
+-- The first bit that is set: in a word by the count of its leading zeros, and in packed bytes by a walk over words. Assumes nothing.
+use mathlib.Core.Bool.{Bool, false, true, true≢false}
+use mathlib.Core.List.{List}
+use mathlib.Core.Path.{ap, ap₂, refl, sym, _∙_, _≡_}
+use Prim.Native.Nat.{_%_, _*_, _+_, _-_, _/_, _<_, _^_, suc, zero, zero-le, ℕ, _≤_}
+use native.Mathlib.Decide.{decLt}
+use native.Mathlib.Nat.{div-eq-of-lt, le-refl, lt-of-lt-of-le, mod-eq-of-lt, mod-lt, mul-add-mod-self-right, one-mul, pow-suc, zero-lt-suc}
+use native.Mathlib.Omega.{arith}
+use lib.Bits.{and-mask, bitAnd, bitXor, xor-shr, xor-step}
+use lib.Bits as Lib
+use lib.Count.{leading-le, leading-of-zero, leading-top, leadingZeros}
+use lib.Dec.{eqb}
+use lib.Pow.{high, ones-lt, ones-split, pow-mono, pow-pos}
+use Rattle.arith.proofs.Words.{bit-mod}
+use Rattle.arith.specs.Digits.{bitOf, digit}
+use Rattle.packed.specs.Bits.{bitAt, differ, FirstFrom, Window}
+
+-- ---- in a word
+
+-- no digit above a number's length is set
+past-top : (x m k : ℕ) → x < 2 ^ m → m ≤ k → bitOf x k ≡ false
+unfolding bitOf digit
+past-top x m k h l = ap (λ (y : ℕ). eqb (y % 2) 1) (div-eq-of-lt (lt-of-lt-of-le h (pow-mono l)))
+
+-- its top digit is
+at-top : (x k : ℕ) → 2 ^ k ≤ x → x < 2 ^ suc k → bitOf x k ≡ true
+unfolding bitOf digit
+at-top x k lo hi =
+    let split : x ≡ 1 * 2 ^ k + (x - 2 ^ k) = omega (arith, one-mul (2 ^ k)) in
+    let rest : x - 2 ^ k < 2 ^ k = omega (arith, pow-suc 2 k, pow-pos k) in
+    ap (λ (y : ℕ). eqb (y % 2) 1) (ap (λ (y : ℕ). y / 2 ^ k) split ∙ high 1 k rest)
+
+leading-first : (x : ℕ) → x < 2 ^ 64 → FirstFrom (λ j. bitOf x (63 - j)) 0 64 (leadingZeros 64 x)
+leading-first zero h = record {
+  start = zero-le;
+  stop = leading-le 64 0;
+  none = λ i _ _. past-top 0 0 (63 - i) (zero-lt-suc zero) zero-le;
+  some = λ l. absurd (omega (arith, leading-of-zero 64));
+}
+leading-first (suc n) h =
+    let top = leading-top 64 (suc n) (zero-lt-suc n) h in
+    let k : ℕ = top .0 in
+    let e : 63 - leadingZeros 64 (suc n) ≡ k = omega (arith, top .1) in
+    record {
+      start = zero-le;
+      stop = leading-le 64 (suc n);
+      none = λ i _ l. past-top (suc n) (suc k) (63 - i) (top .3) (omega (arith, top .1));
+      some = λ _. ap (bitOf (suc n)) e ∙ at-top (suc n) k (top .2) (top .3);
+    }
+
+-- the ones of a word, `>> from`
+ones-is : (from : ℕ) → from < 64 → 18446744073709551615 / 2 ^ from ≡ 2 ^ (64 - from) - 1
+ones-is from h =
+    let e : 64 - from + from ≡ 64 = omega arith in
+    ap (λ (y : ℕ). y / 2 ^ from) (ap (λ (m : ℕ). 2 ^ m - 1) (sym e) ∙ ones-split (64 - from) from) ∙ high (2 ^ (64 - from) - 1) from (ones-lt from)
+
+-- the first of the lowest digits
+masked : (word from r : ℕ) → from < 64 → FirstFrom (λ j. bitOf (word % 2 ^ (64 - from)) (63 - j)) 0 64 r → FirstFrom (λ j. bitOf word (63 - j)) from 64 r
+masked word from r h f =
+    let s : ℕ = 64 - from in
+    let start : from ≤ r = elim (decLt r from) [
+      | yes l ↦ absurd (true≢false (sym (f .some (omega arith)) ∙ past-top (word % 2 ^ s) s (63 - r) (mod-lt word (pow-pos s)) (omega arith)))
+      | no l ↦ omega arith
+    ] in
+    record {
+      start = start;
+      stop = f .stop;
+      none = λ i a b. sym (bit-mod s word (63 - i) (omega (arith, f .stop))) ∙ f .none i zero-le b;
+      some = λ l. sym (bit-mod s word (63 - r) (omega (arith, start))) ∙ f .some l;
+    }
+
+-- `leading_zeros(word & (ones >> from))`
+pub first-one-is : (word from : ℕ) → from < 64
+    → FirstFrom (λ j. bitOf word (63 - j)) from 64 (leadingZeros 64 (bitAnd word (18446744073709551615 / 2 ^ from)))
+first-one-is word from h =
+    let s : ℕ = 64 - from in
+    let few : word % 2 ^ s < 2 ^ 64 = lt-of-lt-of-le (mod-lt word (pow-pos s)) (pow-mono {j = 64} (omega arith)) in
+    rw (ones-is from h, and-mask word s) (masked word from (leadingZeros 64 (word % 2 ^ s)) h (leading-first (word % 2 ^ s) few))
+
+-- ---- the bits of an exclusive or
+
+xor-low : (a b : ℕ) → bitXor a b % 2 ≡ Lib.differ (a % 2) (b % 2)
+xor-low a b =
+    ap (λ (x : ℕ). x % 2) (xor-step a b) ∙ mul-add-mod-self-right (bitXor (a / 2) (b / 2)) 2 (Lib.differ (a % 2) (b % 2))
+    ∙ low (a % 2) (b % 2) (omega arith) (omega arith)
+  where
+    low : (x y : ℕ) → x < 2 → y < 2 → Lib.differ x y % 2 ≡ Lib.differ x y
+    low zero y hx hy = mod-eq-of-lt hy
+    low (suc zero) zero hx hy = refl
+    low (suc zero) (suc zero) hx hy = refl
+    low (suc zero) (suc (suc y)) hx hy = absurd (omega arith)
+    low (suc (suc x)) y hx hy = absurd (omega arith)
+
+either : (x y : ℕ) → x < 2 → y < 2 → eqb (Lib.differ x y) 1 ≡ differ (eqb x 1) (eqb y 1)
+either zero y hx hy = refl
+either (suc zero) zero hx hy = refl
+either (suc zero) (suc zero) hx hy = refl
+either (suc zero) (suc (suc y)) hx hy = absurd (omega arith)
+either (suc (suc x)) y hx hy = absurd (omega arith)
+
+pub bit-xor : (a b k : ℕ) → bitOf (bitXor a b) k ≡ differ (bitOf a k) (bitOf b k)
+unfolding bitOf digit
+bit-xor a b k =
+    ap (λ (x : ℕ). eqb x 1) (ap (λ (x : ℕ). x % 2) (xor-shr a b k) ∙ xor-low (a / 2 ^ k) (b / 2 ^ k))
+    ∙ either (a / 2 ^ k % 2) (b / 2 ^ k % 2) (omega arith) (omega arith)
+
+-- ---- in packed bytes
+
+-- a word has the 64 bits of a test from byte k on
+abbrev pub Holds : (ℕ → Bool) → ℕ → ℕ → Type 0
+Holds test k word = (j : ℕ) → j < 64 → test (8 * k + j) ≡ bitOf word (63 - j)
+
+pub holds-bits : {xs : List ℕ} {k w : ℕ} → Window xs k 8 w → Holds (bitAt xs) k w
+holds-bits f j h = sym (f .bits j h)
+
+pub holds-differ : {xs ys : List ℕ} {k u v : ℕ} → Window xs k 8 u → Window ys k 8 v → Holds (λ i. differ (bitAt xs i) (bitAt ys i)) k (bitXor u v)
+holds-differ {u = u} {v} f g j h = ap₂ differ (sym (f .bits j h)) (sym (g .bits j h)) ∙ sym (bit-xor u v (63 - j))
+
+-- a walk from `from` to `to` has come to i, and none before i passes the test
+pub record Passed (test : ℕ → Bool) (from to i : ℕ) : Type 0 where
+  pub start : from ≤ i
+  pub stop : i ≤ to
+  pub none : (k : ℕ) → from ≤ k → k < i → test k ≡ false
+
+pub passed-none : (test : ℕ → Bool) (from to : ℕ) → from ≤ to → Passed test from to from
+passed-none test from to h = record { start = le-refl from; stop = h; none = λ k a b. absurd (omega arith) }
+
+pub passed-all : {test : ℕ → Bool} {from to i : ℕ} → Passed test from to i → to ≤ i → FirstFrom test from to to
+passed-all {from = from} {to} {i} p h = record {
+  start = omega (arith, p .start, p .stop);
+  stop = le-refl to;
+  none = λ k a b. p .none k a (omega arith);
+  some = λ l. absurd (omega arith);
+}
+
+-- the walk's turn, by what was found in the word from i's byte on
+module _ (word : ℕ) {test : ℕ → Bool} {from to i found : ℕ} (p : Passed test from to i) (holds : Holds test (i / 8) word) (f : FirstFrom (λ j. bitOf word (63 - j)) (i % 8) 64 found) where
+  clear : (k : ℕ) → from ≤ k → k < i + (found - i % 8) → test k ≡ false
+  clear k a b = elim (decLt k i) [
+    | yes l ↦ p .none k a l
+    | no g ↦
+        let j : ℕ = k - 8 * (i / 8) in
+        let e : k ≡ 8 * (i / 8) + j = omega arith in
+        ap test e ∙ holds j (omega (arith, f .stop)) ∙ f .none j (omega arith) (omega (arith, f .start))
+  ]
+
+  pub turn-ends : to - i ≤ found - i % 8 → FirstFrom test from to to
+  turn-ends h = record {
+    start = omega (arith, p .start, p .stop);
+    stop = le-refl to;
+    none = λ k a b. clear k a (omega (arith, p .stop));
+    some = λ l. absurd (omega arith);
+  }
+
+  pub turn-finds : found - i % 8 < to - i → found < 64 → FirstFrom test from to (i + (found - i % 8))
+  turn-finds h l =
+      let e : i + (found - i % 8) ≡ 8 * (i / 8) + found = omega (arith, f .start) in
+      record {
+        start = omega (arith, p .start);
+        stop = omega arith;
+        none = clear;
+        some = λ _. ap test e ∙ holds found l ∙ f .some l;
+      }
+
+  pub turn-goes : found - i % 8 < to - i → 64 ≤ found → Passed test from to (i + (64 - i % 8))
+  turn-goes h l = record { start = omega (arith, p .start); stop = omega (arith, f .stop); none = λ k a b. clear k a (omega arith) }

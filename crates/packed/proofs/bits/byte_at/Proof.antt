@@ -1,0 +1,29 @@
+-- `packed::bits::byte_at` meets its contract: past the end there are zeros. Assumes nothing.
+use Prim.Native.Nat.{_+_}
+use native.Mathlib.Omega.{arith}
+use borrow.Author.Needs.{needs}
+use Rattle.packed.proofs.WindowLaws.{window-byte, window-past}
+use Rattle.packed.proofs.bits.byte_at.Statement.{statement}
+use Rattle.packed.proofs.bits.byte_at.Tie as tie
+
+sub-if1 : tie.Need-sub-if1
+sub-if1 c = search needs
+
+add-result : tie.Need-add-result
+add-result c = search needs
+
+shared-slice-read-result : tie.Need-shared-slice-read-result
+shared-slice-read-result c = search needs
+
+cast-result : tie.Need-cast-result
+cast-result c = let s = c .before .before in omega (arith, c .shared-slice-known .given (s .args .k + s .args .m))
+
+returns : tie.Need-returns
+returns c = let s = c .before .before in window-byte _ _ (c .shared-slice-known .given (s .args .k + s .args .m) .fits)
+
+returns-2 : tie.Need-returns-2
+returns-2 c = let s = c .before in window-past (s .args .bits .now) (s .args .k + s .args .m) (omega arith)
+
+pub byte-at-spec : {M : Type 1} → statement M
+byte-at-spec =
+    tie.close (tie.spec sub-if1 add-result shared-slice-read-result cast-result returns returns-2)

@@ -1,0 +1,43 @@
+-- `packed::bits::last_at` meets its contract: after m turns the word is the window of m bytes. Assumes nothing.
+use mathlib.Core.Path.{subst, _≡_}
+use Prim.Native.Nat.{_-_, _≤_}
+use native.Mathlib.Omega.{arith}
+use borrow.Author.Needs.{needs}
+use Rattle.packed.proofs.WindowLaws.{window-none, window-or}
+use Rattle.packed.specs.Bits.{Window}
+use Rattle.packed.proofs.bits.last_at.Statement.{statement}
+use Rattle.packed.proofs.bits.last_at.Tie as tie
+
+abbrev Inv-loop : tie.InvT-loop
+Inv-loop bits k word₀ m₀ word m = (m ≤ 8) × Window bits k m word
+
+abbrev μ-loop : tie.MeasureT-loop
+μ-loop bits k word₀ m₀ word m = 8 - m
+
+loop-holds : tie.Need-loop-holds Inv-loop μ-loop
+loop-holds c = (search needs, window-none _ _)
+
+byte-at-requires : tie.Need-byte-at-requires Inv-loop μ-loop
+byte-at-requires c κs = c .before .before .before .pre
+
+add-m : tie.Need-add-m Inv-loop μ-loop
+add-m c = omega arith
+
+loop-less : tie.Need-loop-less Inv-loop μ-loop
+loop-less c = omega arith
+
+loop-again : tie.Need-loop-again Inv-loop μ-loop
+loop-again c =
+    let s = c .before .before .before .before in
+    let at = c .before .before .loop in
+    (omega arith, window-or (s .args .bits .now) (s .args .k) (at .m) 1 (at .word) (c .byte-at .result) (omega arith) (at .inv .1) (c .byte-at .ensures))
+
+returns : tie.Need-returns Inv-loop μ-loop
+returns c =
+    let e : c .before .loop .m ≡ 8 = omega arith in
+    subst (λ m. Window (c .before .before .before .args .bits .now) (c .before .before .before .args .k) m (c .before .loop .word)) e (c .before .loop .inv .1)
+
+pub last-at-spec : {M : Type 1} → statement M
+last-at-spec =
+    tie.close
+    (tie.spec Inv-loop μ-loop loop-holds byte-at-requires add-m loop-less loop-again returns)

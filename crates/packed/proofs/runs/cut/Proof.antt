@@ -1,0 +1,24 @@
+-- `packed::runs::cut` meets its contract: the power fits. Assumes nothing.
+use mathlib.Core.Path.{ap}
+use Prim.Native.Nat.{_%_, _/_, _^_}
+use native.Mathlib.Omega.{arith}
+use lib.Pow.{pow-pos}
+use Rattle.packed.proofs.RunLaws.{shifted-one}
+use borrow.Author.Needs.{needs}
+use Rattle.packed.proofs.runs.cut.Statement.{statement}
+use Rattle.packed.proofs.runs.cut.Tie as tie
+
+shr-result : tie.Need-shr-result
+shr-result c = search needs
+
+shl-result : tie.Need-shl-result
+shl-result c = search needs
+
+rem-result : tie.Need-rem-result
+rem-result c = omega (arith, shifted-one (c .args .count) (c .pre .1), pow-pos (c .args .count))
+
+returns : tie.Need-returns
+returns c = ap (λ m. c .args .run / 2 ^ c .args .after % m) (shifted-one (c .args .count) (c .pre .1))
+
+pub cut-spec : {M : Type 1} → statement M
+cut-spec = tie.close (tie.spec shr-result shl-result rem-result returns)

@@ -1,0 +1,34 @@
+-- What the degrees of one pass say of a graph: whether a node has too many edges, and each node's bound. Assumes nothing.
+use mathlib.Core.Bool.{Bool}
+use mathlib.Core.List.{List}
+use mathlib.Core.Path.{ap, sym, _∙_, _≡_}
+use Prim.Native.Nat.{_*_, _<_, ℕ, _≤_}
+use native.Mathlib.Omega.{arith}
+use lib.Dec.{ltb}
+use lib.ListN.{getD}
+use Rattle.arith.proofs.Sums.{anyTo-ext, countTo-le, tabulate-ext}
+use Rattle.arith.specs.Sums.{anyTo, tabulate}
+use Rattle.ego.proofs.FoundLaws.{degree-is}
+use Rattle.ego.specs.Bound.{bound}
+use Rattle.ego.specs.Graph.{degree}
+use Rattle.ego.specs.Limits.{limit, unit}
+use Rattle.packed.proofs.DegreeLaws.{degree-at}
+use Rattle.packed.specs.Degrees.{degreesOf}
+use Rattle.packed.specs.Edges.{edge}
+use Rattle.packed.specs.Pairs.{maxNodes, pairCount}
+use Rattle.state.specs.Refusal.{everyone, tooMany}
+
+module _ (es : List ℕ) (n : ℕ) {degrees : List ℕ} (few : n ≤ maxNodes) (e : degrees ≡ degreesOf es n) where
+  pub degree-of : (p : ℕ) → p < n → getD degrees p 0 ≡ degree (edge es) n p
+  degree-of p h = ap (λ l. getD l p 0) e ∙ degree-at es n p few h ∙ sym (degree-is _ _ _)
+
+  pub degree-small : (p : ℕ) → p < n → getD degrees p 0 ≤ maxNodes
+  degree-small p h = omega (arith, ap (λ l. getD l p 0) e, degree-at es n p few h, countTo-le (edge es p) n)
+
+  pub over-by : {t : Bool} → t ≡ anyTo (λ p. ltb limit (getD degrees p 0)) n → t ≡ tooMany (edge es) n everyone
+  unfolding tooMany
+  over-by q = q ∙ anyTo-ext _ _ n (λ p h. ap (ltb limit) (degree-of p h))
+
+  pub bounds-by : tabulate (λ p. unit * pairCount (getD degrees p 0)) n ≡ tabulate (bound (edge es) n) n
+  unfolding bound
+  bounds-by = tabulate-ext _ _ n (λ p h. ap (λ d. unit * pairCount d) (degree-of p h))
