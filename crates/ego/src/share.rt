@@ -1,9 +1,8 @@
 // The shares of the pairs of a neighbourhood.
 ghost use mathlib.Core.Path.{_≡_};
-ghost use Prim.Native.Nat.{_+_, _/_, _≤_};
-ghost use Rattle.ego.specs.Limits.{unit, wordBits};
+ghost use Rattle.ego.specs.Words.{shareTable};
 
-// UNIT / (c + 1), for each count that two words can share. A table, since a division takes longer than the rest of a pair.
+// UNIT / (c + 1), for each count c.
 const SHARES: [u64; 33] = [
     72201776446800,
     36100888223400,
@@ -40,10 +39,10 @@ const SHARES: [u64; 33] = [
     2187932619600,
 ];
 
-// What an unlinked pair with c common neighbours gives.
-pub(crate) fn share(c: usize) -> u64
-    requires { ⌜ c ≤ wordBits ⌝ }
-    ensures { λ r. ⌜ r ≡ unit / (c + 1) ⌝ }
+// What an unlinked pair gives, by how many bits its words share. A table, since a division takes longer than the rest of a pair; made once for a
+// score, since each use of the constant makes it anew.
+pub(crate) fn shares() -> [u64; 33]
+    ensures { λ r. ⌜ r ≡ shareTable ⌝ }
 {
-    SHARES[c]
+    SHARES
 }
