@@ -16,19 +16,33 @@ length-refusal-requires c κs = search needs
 
 returns : tie.Need-returns
 unfolding fjRemove
-returns c = called-refused (λ s. removeCall s (c .before .before .before .before .before .args .a) (c .before .before .before .before .before .args .b)) _ (state (now (c .before .before .before .before .before .args .links)) (now (c .before .before .before .before .before .args .figures)) (now (c .before .before .before .before .before .args .marks))) (c .before .length-refusal .ensures) (c .if1 .taken)
+returns c =
+    let s = c .before .before .before .before .before in
+    called-refused (λ t. removeCall t (s .args .a) (s .args .b)) _ (state (now (s .args .links)) (now (s .args .figures)) (now (s .args .marks))) (c .before .length-refusal .ensures) (c .if1 .taken)
 
 room-requires : tie.Need-room-requires
 room-requires c κs = search needs
 
 array-borrow-prefix-numbers : tie.Need-array-borrow-prefix-numbers
-array-borrow-prefix-numbers c = room-part ((lent-by _ _ _ _ (c .before .before .before .before .before .length-refusal .ensures) (c .before .before .before .before .if1 .left)) .few) (c .before .before .before .room .ensures)
+array-borrow-prefix-numbers c =
+    let at-room = c .before .before .before in
+    let at-if1 = at-room .before in
+    let at-length-refusal = at-if1 .before in
+    room-part ((lent-by _ _ _ _ (at-length-refusal .length-refusal .ensures) (at-if1 .if1 .left)) .few) (at-room .room .ensures)
 
 slice-aggregate-remove-in : tie.Need-slice-aggregate-remove-in
-slice-aggregate-remove-in c = sym (length-take-le _ _ (room-part ((lent-by _ _ _ _ (c .before .before .before .before .before .before .length-refusal .ensures) (c .before .before .before .before .before .if1 .left)) .few) (c .before .before .before .before .room .ensures)))
+slice-aggregate-remove-in c =
+    let at-room = c .before .before .before .before in
+    let at-if1 = at-room .before in
+    let at-length-refusal = at-if1 .before in
+    sym (length-take-le _ _ (room-part ((lent-by _ _ _ _ (at-length-refusal .length-refusal .ensures) (at-if1 .if1 .left)) .few) (at-room .room .ensures)))
 
 remove-in-requires : tie.Need-remove-in-requires
-remove-in-requires c κs = (lent-by _ _ _ _ (c .before .before .before .before .before .before .length-refusal .ensures) (c .before .before .before .before .before .if1 .left)) .fit ∙ ap (λ m. 8 * m) (sym (length-take-le _ _ (room-part ((lent-by _ _ _ _ (c .before .before .before .before .before .before .length-refusal .ensures) (c .before .before .before .before .before .if1 .left)) .few) (c .before .before .before .before .room .ensures))))
+remove-in-requires c κs =
+    let at-room = c .before .before .before .before in
+    let at-if1 = at-room .before in
+    let at-length-refusal = at-if1 .before in
+    (lent-by _ _ _ _ (at-length-refusal .length-refusal .ensures) (at-if1 .if1 .left)) .fit ∙ ap (λ m. 8 * m) (sym (length-take-le _ _ (room-part ((lent-by _ _ _ _ (at-length-refusal .length-refusal .ensures) (at-if1 .if1 .left)) .few) (at-room .room .ensures))))
 
 same-length : tie.Need-same-length
 same-length c = search needs
@@ -41,7 +55,13 @@ same-length-3 c = search needs
 
 returns-2 : tie.Need-returns-2
 unfolding fjRemove
-returns-2 c = called-passed (λ s. removeCall s (c .before .before .before .before .before .before .before .before .before .before .before .before .before .before .before .before .before .before .args .a) (c .before .before .before .before .before .before .before .before .before .before .before .before .before .before .before .before .before .before .args .b)) _ (state (now (c .before .before .before .before .before .before .before .before .before .before .before .before .before .before .before .before .before .before .args .links)) (now (c .before .before .before .before .before .before .before .before .before .before .before .before .before .before .before .before .before .before .args .figures)) (now (c .before .before .before .before .before .before .before .before .before .before .before .before .before .before .before .before .before .before .args .marks))) (c .before .before .before .before .before .before .before .before .before .before .before .before .before .before .length-refusal .ensures) (c .before .before .before .before .before .before .before .before .before .before .before .before .before .if1 .left) (length-take-le _ _ (room-part ((lent-by _ _ _ _ (c .before .before .before .before .before .before .before .before .before .before .before .before .before .before .length-refusal .ensures) (c .before .before .before .before .before .before .before .before .before .before .before .before .before .if1 .left)) .few) (c .before .before .before .before .before .before .before .before .before .before .before .before .room .ensures))) (c .before .before .before .before .before .before .before .remove-in .ensures)
+returns-2 c =
+    let at-remove-in = c .before .before .before .before .before .before .before in
+    let at-room = at-remove-in .before .before .before .before .before in
+    let at-if1 = at-room .before in
+    let at-length-refusal = at-if1 .before in
+    let s = at-length-refusal .before .before .before .before in
+    called-passed (λ t. removeCall t (s .args .a) (s .args .b)) _ (state (now (s .args .links)) (now (s .args .figures)) (now (s .args .marks))) (at-length-refusal .length-refusal .ensures) (at-if1 .if1 .left) (length-take-le _ _ (room-part ((lent-by _ _ _ _ (at-length-refusal .length-refusal .ensures) (at-if1 .if1 .left)) .few) (at-room .room .ensures))) (at-remove-in .remove-in .ensures)
 
 pub fj-remove-spec : {M : Type 1} → statement M
 fj-remove-spec =

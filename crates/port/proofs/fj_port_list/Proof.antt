@@ -26,8 +26,10 @@ same-length-4 c = search needs
 
 returns : tie.Need-returns
 returns c =
-    let s = c .before .before .before .before .before .before .before .before .before .before .before .before .before .before .before .before .before .before .before .args in
-    port-list (state (now (s .links)) (now (s .figures)) (now (s .marks))) (now (s .entries)) (now (s .scratch)) (c .before .before .before .before .before .before .before .before .before .list .ensures) (c .one-number .ensures)
+    let at-list = c .before .before .before .before .before .before .before .before .before in
+    let s = at-list .before .before .before .before .before .before .before .before .before .before in
+    let s = s .args in
+    port-list (state (now (s .links)) (now (s .figures)) (now (s .marks))) (now (s .entries)) (now (s .scratch)) (at-list .list .ensures) (c .one-number .ensures)
 
 pub fj-port-list-spec : {M : Type 1} → statement M
 fj-port-list-spec =

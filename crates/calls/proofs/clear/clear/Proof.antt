@@ -40,10 +40,14 @@ same-length-3 c = search needs
 returns-2 : tie.Need-returns-2
 unfolding clearCall lengths
 returns-2 c =
-    let s = c .before .before .before .before .before .before .before .before .before .before .before .before .before .before .before .before .before in
-    let f = fitted-by (c .before .before .before .before .before .before .before .before .before .before .before .before .before .state-refusal .ensures) (c .before .before .before .before .before .before .before .before .before .before .before .before .if1 .left) in
-    outcome-accepted _ (state (now (s .args .edges)) (now (s .args .figures)) (now (s .args .marks))) _ (sym (c .before .before .before .before .before .before .before .before .before .before .before .before .before .state-refusal .ensures) ∙ c .before .before .before .before .before .before .before .before .before .before .before .before .if1 .left)
-    (cleared-is _ (c .before .before .before .before .before .before .before .before .before .before .zero .ensures ∙ ap (λ m. replicate m 0) (f .sizes .edgesFit)) (c .before .before .before .before .before .before .zero2 .ensures) (c .before .before .set-exact .ensures ∙ ap (λ m. replicate m 0) (f .marksFit)))
+    let at-zero2 = c .before .before .before .before .before .before in
+    let at-zero = at-zero2 .before .before .before .before in
+    let at-if1 = at-zero .before .before in
+    let at-state-refusal = at-if1 .before in
+    let s = at-state-refusal .before .before .before .before in
+    let f = fitted-by (at-state-refusal .state-refusal .ensures) (at-if1 .if1 .left) in
+    outcome-accepted _ (state (now (s .args .edges)) (now (s .args .figures)) (now (s .args .marks))) _ (sym (at-state-refusal .state-refusal .ensures) ∙ at-if1 .if1 .left)
+    (cleared-is _ (at-zero .zero .ensures ∙ ap (λ m. replicate m 0) (f .sizes .edgesFit)) (at-zero2 .zero2 .ensures) (c .before .before .set-exact .ensures ∙ ap (λ m. replicate m 0) (f .marksFit)))
 
 pub clear-spec : {M : Type 1} → statement M
 clear-spec =

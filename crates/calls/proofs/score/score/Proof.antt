@@ -37,10 +37,13 @@ refused-requires-3 c κs = search needs
 
 returns-3 : tie.Need-returns-3
 returns-3 c =
-    let s = c .before .before .before .before .before .before .before in
-    let sizes = sized-by (c .before .before .before .before .before .edge-refusal .ensures) (c .before .before .before .before .if1 .left) in
+    let at-if2 = c .before .before .before in
+    let at-if1 = at-if2 .before in
+    let at-edge-refusal = at-if1 .before in
+    let s = at-edge-refusal .before .before in
+    let sizes = sized-by (at-edge-refusal .edge-refusal .ensures) (at-if1 .if1 .left) in
     c .refused3 .ensures
-    ∙ score-crowded (now (s .args .edges)) (s .args .n) (s .args .p) sizes (c .before .before .before .if2 .left) (omega (arith, found-degree (c .before .before .neighbours-of .ensures)))
+    ∙ score-crowded (now (s .args .edges)) (s .args .n) (s .args .p) sizes (at-if2 .if2 .left) (omega (arith, found-degree (c .before .before .neighbours-of .ensures)))
 
 score-of-requires : tie.Need-score-of-requires
 score-of-requires c κs =
@@ -49,12 +52,16 @@ score-of-requires c κs =
 
 returns-4 : tie.Need-returns-4
 returns-4 c =
-    let s = c .before .before .before .before .before .before .before .before in
-    let found = c .before .before .before .neighbours-of .ensures in
+    let at-neighbours-of = c .before .before .before in
+    let at-if2 = at-neighbours-of .before in
+    let at-if1 = at-if2 .before in
+    let at-edge-refusal = at-if1 .before in
+    let s = at-edge-refusal .before .before in
+    let found = at-neighbours-of .neighbours-of .ensures in
     let few = c .before .before .if3 .left in
     score-accepted (now (s .args .edges)) (s .args .n) (s .args .p)
-    (sized-by (c .before .before .before .before .before .before .edge-refusal .ensures) (c .before .before .before .before .before .if1 .left))
-    (c .before .before .before .before .if2 .left)
+    (sized-by (at-edge-refusal .edge-refusal .ensures) (at-if1 .if1 .left))
+    (at-if2 .if2 .left)
     (omega (arith, found-degree found))
     (c .score-of .ensures ∙ found-score found few)
 

@@ -28,7 +28,9 @@ loop-holds : tie.Need-loop-holds Inv-loop μ-loop
 loop-holds c = (search needs, ap (λ m. 1 + m) (c .edge-bytes .ensures), sym (fillTo-none _ _))
 
 snapshot-byte-requires : tie.Need-snapshot-byte-requires Inv-loop μ-loop
-snapshot-byte-requires c κs = (c .before .before .before .before .pre .0, c .before .before .before .before .pre .1, c .before .before .before .before .pre .2, omega (arith, c .before .loop .inv .1))
+snapshot-byte-requires c κs =
+    let s = c .before .before .before .before in
+    (s .pre .0, s .pre .1, s .pre .2, omega (arith, c .before .loop .inv .1))
 
 array-write-bytes : tie.Need-array-write-bytes Inv-loop μ-loop
 array-write-bytes c = omega (arith, c .before .before .loop .inv .1, bytes-small (c .before .before .before .before .before .args .n) (c .before .before .before .before .before .pre .1))

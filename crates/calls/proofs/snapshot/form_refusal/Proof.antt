@@ -50,20 +50,34 @@ part-edges-end c = omega arith
 
 spare-set-requires : tie.Need-spare-set-requires
 spare-set-requires c κs =
-    let byte = c .before .before .before .shared-slice-known2 .given 0 in
-    (omega arith, omega (arith, byte), part-length (now (c .before .before .before .before .before .before .args .snapshot)) (c .before .if2 .left ∙ ap (λ m. 1 + m) (c .before .before .edge-bytes .ensures)))
+    let at-shared-slice-known2 = c .before .before .before in
+    let s = at-shared-slice-known2 .before .before .before in
+    let byte = at-shared-slice-known2 .shared-slice-known2 .given 0 in
+    (omega arith, omega (arith, byte), part-length (now (s .args .snapshot)) (c .before .if2 .left ∙ ap (λ m. 1 + m) (c .before .before .edge-bytes .ensures)))
 
 returns-3 : tie.Need-returns-3
 returns-3 c =
-    sym (refused-spare _ _ (c .before .before .before .before .before .before .if1 .left) (c .before .before .before .if2 .left ∙ ap (λ m. 1 + m) (c .before .before .before .before .edge-bytes .ensures)) (spare (now (c .before .before .before .before .before .before .before .before .args .snapshot)) _ (c .before .spare-set .ensures) (c .if3 .taken)))
+    let at-if2 = c .before .before .before in
+    let at-edge-bytes = at-if2 .before in
+    let at-if1 = at-edge-bytes .before .before in
+    let s = at-if1 .before .before in
+    sym (refused-spare _ _ (at-if1 .if1 .left) (at-if2 .if2 .left ∙ ap (λ m. 1 + m) (at-edge-bytes .edge-bytes .ensures)) (spare (now (s .args .snapshot)) _ (c .before .spare-set .ensures) (c .if3 .taken)))
 
 returns-4 : tie.Need-returns-4
 returns-4 c =
-    sym (passed-snapshot _ _ (c .before .before .before .before .before .before .before .if1 .left) (c .before .before .before .before .if2 .left ∙ ap (λ m. 1 + m) (c .before .before .before .before .before .edge-bytes .ensures)) (spare (now (c .before .before .before .before .before .before .before .before .before .args .snapshot)) _ (c .before .before .spare-set .ensures) (c .before .if3 .left)) ∙ refused-other _ _ _ (c .if4 .taken))
+    let at-if2 = c .before .before .before .before in
+    let at-edge-bytes = at-if2 .before in
+    let at-if1 = at-edge-bytes .before .before in
+    let s = at-if1 .before .before in
+    sym (passed-snapshot _ _ (at-if1 .if1 .left) (at-if2 .if2 .left ∙ ap (λ m. 1 + m) (at-edge-bytes .edge-bytes .ensures)) (spare (now (s .args .snapshot)) _ (c .before .before .spare-set .ensures) (c .before .if3 .left)) ∙ refused-other _ _ _ (c .if4 .taken))
 
 returns-5 : tie.Need-returns-5
 returns-5 c =
-    sym (passed-snapshot _ _ (c .before .before .before .before .before .before .before .if1 .left) (c .before .before .before .before .if2 .left ∙ ap (λ m. 1 + m) (c .before .before .before .before .before .edge-bytes .ensures)) (spare (now (c .before .before .before .before .before .before .before .before .before .args .snapshot)) _ (c .before .before .spare-set .ensures) (c .before .if3 .left)) ∙ passed-other _ _ _ (c .if4 .left) ∙ refusal-none)
+    let at-if2 = c .before .before .before .before in
+    let at-edge-bytes = at-if2 .before in
+    let at-if1 = at-edge-bytes .before .before in
+    let s = at-if1 .before .before in
+    sym (passed-snapshot _ _ (at-if1 .if1 .left) (at-if2 .if2 .left ∙ ap (λ m. 1 + m) (at-edge-bytes .edge-bytes .ensures)) (spare (now (s .args .snapshot)) _ (c .before .before .spare-set .ensures) (c .before .if3 .left)) ∙ passed-other _ _ _ (c .if4 .left) ∙ refusal-none)
 
 pub form-refusal-spec : {M : Type 1} → statement M
 form-refusal-spec =

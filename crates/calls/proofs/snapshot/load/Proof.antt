@@ -28,22 +28,27 @@ fitted c = fitted-by (c .before .before .before .state-refusal .ensures) (c .bef
 fits : (c : tie.Else2) →
     let s = c .before .before .before .before .before .before .before .before .args in
     Fits (length (now (s .figures))) (now (s .snapshot))
-fits c = fits-by _ (now (c .before .before .before .before .before .before .before .before .args .snapshot)) [] (c .before .form-refusal .ensures) (c .if2 .left)
+fits c =
+    let s = c .before .before .before .before .before .before .before .before in
+    fits-by _ (now (s .args .snapshot)) [] (c .before .form-refusal .ensures) (c .if2 .left)
 
 -- and once the degrees are there
 degrees-are : (c : tie.After-degrees) →
     let s = c .before .before .before .before .before .before .before .before .before .before .before .args in
     c .before .degrees-of .result ≡ degreesOf (snapshotEdges (now (s .snapshot))) (length (now (s .figures)))
 degrees-are c =
-    let s = c .before .before .before .before .before .before .before .before .before .before .before .args in
+    let s = c .before .before .before .before .before .before .before .before .before .before .before in
+    let s = s .args in
     c .before .degrees-of .ensures ∙ ap (λ l. degreesOf l (length (now (s .figures)))) (part-is (now (s .snapshot)))
 
 over : (c : tie.After-any-among) →
     let s = c .before .before .before .before .before .before .before .before .before .before .before .before .args in
     c .any-among .result ≡ tooMany (edge (snapshotEdges (now (s .snapshot)))) (length (now (s .figures))) everyone
 over c =
-    let s = c .before .before .before .before .before .before .before .before .before .before .before .before .args in
-    over-by (snapshotEdges (now (s .snapshot))) (length (now (s .figures))) (fitted (c .before .before .before .before) .sizes .few) (degrees-are (c .before)) (c .any-among .ensures)
+    let here = c .before .before .before .before in
+    let s = here .before .before .before .before .before .before .before .before in
+    let s = s .args in
+    over-by (snapshotEdges (now (s .snapshot))) (length (now (s .figures))) (fitted here .sizes .few) (degrees-are (c .before)) (c .any-among .ensures)
 
 state-refusal-requires : tie.Need-state-refusal-requires
 state-refusal-requires c κs = search needs
@@ -60,8 +65,9 @@ form-refusal-requires c κs = search needs
 returns-2 : tie.Need-returns-2
 unfolding loadCall
 returns-2 c =
-    let s = c .before .before .before .before .before .before .before .before in
-    call-refused (state (now (s .args .edges)) (now (s .args .figures)) (now (s .args .marks))) _ _ (fitted-by (c .before .before .before .state-refusal .ensures) (c .before .before .if1 .left)) (form-refused _ (now (s .args .snapshot)) (c .before .form-refusal .ensures) (c .if2 .taken)) (c .if2 .taken)
+    let at-state-refusal = c .before .before .before in
+    let s = at-state-refusal .before .before .before .before .before in
+    call-refused (state (now (s .args .edges)) (now (s .args .figures)) (now (s .args .marks))) _ _ (fitted-by (at-state-refusal .state-refusal .ensures) (c .before .before .if1 .left)) (form-refused _ (now (s .args .snapshot)) (c .before .form-refusal .ensures) (c .if2 .taken)) (c .if2 .taken)
 
 sub-degrees-of : tie.Need-sub-degrees-of
 sub-degrees-of c = omega (arith, fits c .long)
@@ -82,13 +88,16 @@ slice-aggregate-any-among : tie.Need-slice-aggregate-any-among
 slice-aggregate-any-among c = search needs
 
 any-among-requires : tie.Need-any-among-requires
-any-among-requires c κs = omega (arith, ap length (degrees-are c), length-degrees (snapshotEdges (now (c .before .before .before .before .before .before .before .before .before .before .before .args .snapshot))) (length (now (c .before .before .before .before .before .before .before .before .before .before .before .args .figures))), fitted (c .before .before .before) .sizes .few)
+any-among-requires c κs =
+    let here = c .before .before .before in
+    let s = here .before .before .before .before .before .before .before .before in
+    omega (arith, ap length (degrees-are c), length-degrees (snapshotEdges (now (s .args .snapshot))) (length (now (s .args .figures))), fitted here .sizes .few)
 
 returns-3 : tie.Need-returns-3
 unfolding loadCall
 returns-3 c =
-    let s = c .before .before .before .before .before .before .before .before .before .before .before .before .before in
     let e = c .before .before .before .before .before in
+    let s = e .before .before .before .before .before .before .before .before in
     call-refused (state (now (s .args .edges)) (now (s .args .figures)) (now (s .args .marks))) _ _ (fitted e) (load-crowded _ (now (s .args .snapshot)) (e .before .form-refusal .ensures) (e .if2 .left) (sym (over (c .before)) ∙ c .if3 .taken)) (λ q. omega arith)
 
 copy-edges-requires : tie.Need-copy-edges-requires
@@ -101,13 +110,15 @@ slice-aggregate-set-bounds c = search needs
 
 set-bounds-requires : tie.Need-set-bounds-requires
 set-bounds-requires c κs =
-    let s = c .before .before .before .before .before .before .before .before .before .before .before .before .before .before .before .before .before .before .before in
     let d = c .before .before .before .before .before .before .before .before in
+    let s = d .before .before .before .before .before .before .before .before .before .before .before in
     let few = fitted (d .before .before .before) .sizes .few in
     (omega (arith, ap length (degrees-are d), length-degrees (snapshotEdges (now (s .args .snapshot))) (length (now (s .args .figures)))), degree-small _ _ few (degrees-are d))
 
 set-stale-requires : tie.Need-set-stale-requires
-set-stale-requires c κs = fitted (c .before .before .before .before .before .before .before .before .before .before .before .before .before .before .before) .marksFit
+set-stale-requires c κs =
+    let here = c .before .before .before .before .before .before .before .before .before .before .before .before .before .before .before in
+    fitted here .marksFit
 
 same-length : tie.Need-same-length
 same-length c = search needs
@@ -121,11 +132,15 @@ same-length-3 c = search needs
 returns-4 : tie.Need-returns-4
 unfolding loadCall
 returns-4 c =
-    let s = c .before .before .before .before .before .before .before .before .before .before .before .before .before .before .before .before .before .before .before .before .before .before .before .before .before .before in
-    let e = c .before .before .before .before .before .before .before .before .before .before .before .before .before .before .before .before .before .before in
-    let d = c .before .before .before .before .before .before .before .before .before .before .before .before .before .before .before in
-    call-accepted (state (now (s .args .edges)) (now (s .args .figures)) (now (s .args .marks))) _ _ (fitted e) (load-passed _ (now (s .args .snapshot)) (e .before .form-refusal .ensures) (e .if2 .left) (sym (over (c .before .before .before .before .before .before .before .before .before .before .before .before .before .before)) ∙ c .before .before .before .before .before .before .before .before .before .before .before .before .before .if3 .left)) refl
-    (loaded-is _ (c .before .before .before .before .before .before .before .before .before .before .before .copy-edges .ensures) (c .before .before .before .before .before .before .set-bounds .ensures ∙ bounds-by (snapshotEdges (now (s .args .snapshot))) _ (fitted e .sizes .few) (degrees-are d)) (c .before .before .set-stale .ensures))
+    let at-set-bounds = c .before .before .before .before .before .before in
+    let at-copy-edges = at-set-bounds .before .before .before .before .before in
+    let at-if3 = at-copy-edges .before .before in
+    let here = at-if3 .before in
+    let d = here .before in
+    let e = d .before .before .before in
+    let s = e .before .before .before .before .before .before .before .before in
+    call-accepted (state (now (s .args .edges)) (now (s .args .figures)) (now (s .args .marks))) _ _ (fitted e) (load-passed _ (now (s .args .snapshot)) (e .before .form-refusal .ensures) (e .if2 .left) (sym (over here) ∙ at-if3 .if3 .left)) refl
+    (loaded-is _ (at-copy-edges .copy-edges .ensures) (at-set-bounds .set-bounds .ensures ∙ bounds-by (snapshotEdges (now (s .args .snapshot))) _ (fitted e .sizes .few) (degrees-are d)) (c .before .before .set-stale .ensures))
 
 pub load-spec : {M : Type 1} → statement M
 load-spec =

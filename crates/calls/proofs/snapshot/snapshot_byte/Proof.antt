@@ -34,14 +34,18 @@ shared-slice-read-x : tie.Need-shared-slice-read-x
 shared-slice-read-x c = search needs
 
 mul-if2 : tie.Need-mul-if2
-mul-if2 c = omega (arith, c .before .before .before .pre .3, bytes-small (c .before .before .before .args .n) (c .before .before .before .pre .1))
+mul-if2 c =
+    let s = c .before .before .before in
+    omega (arith, s .pre .3, bytes-small (s .args .n) (s .pre .1))
 
 returns-2 : tie.Need-returns-2
 unfolding pairCount
 returns-2 c = whole-is _ (c .before .before .before .before .args .n) _ (λ k. c .before .shared-slice-known2 .given k .fits) (c .before .before .if1 .left) (c .if2 .taken)
 
 mul-trimmed : tie.Need-mul-trimmed
-mul-trimmed c = omega (arith, c .before .before .before .before .pre .3, bytes-small (c .before .before .before .before .args .n) (c .before .before .before .before .pre .1))
+mul-trimmed c =
+    let s = c .before .before .before .before in
+    omega (arith, s .pre .3, bytes-small (s .args .n) (s .pre .1))
 
 sub-trimmed : tie.Need-sub-trimmed
 sub-trimmed c = search needs
@@ -52,7 +56,10 @@ trimmed-requires c κs = omega (arith, c .before .before .before .before .pre .3
 
 returns-3 : tie.Need-returns-3
 unfolding pairCount
-returns-3 c = last-is _ (c .before .before .before .before .before .args .n) _ (λ k. c .before .before .shared-slice-known2 .given k .fits) (c .before .before .before .if1 .left) (c .before .before .before .before .before .pre .3) (c .before .if2 .left) (c .trimmed .ensures)
+returns-3 c =
+    let at-if1 = c .before .before .before in
+    let s = at-if1 .before .before in
+    last-is _ (s .args .n) _ (λ k. c .before .before .shared-slice-known2 .given k .fits) (at-if1 .if1 .left) (s .pre .3) (c .before .if2 .left) (c .trimmed .ensures)
 
 pub snapshot-byte-spec : {M : Type 1} → statement M
 snapshot-byte-spec =

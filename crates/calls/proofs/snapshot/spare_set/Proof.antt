@@ -53,7 +53,9 @@ returns c =
     sym (anyTo-here _ _ (at .i) (omega (arith, s .pre .2)) (spare-here (s .args .n) (now (s .args .edges)) (at .i) (omega arith) (sym (c .before .get .ensures) ∙ c .if1 .taken)))
 
 add-i : tie.Need-add-i Inv-loop μ-loop
-add-i c = omega (arith, c .before .before .before .before .before .pre .2, bytes-small (c .before .before .before .before .before .args .n) (c .before .before .before .before .before .pre .1))
+add-i c =
+    let s = c .before .before .before .before .before in
+    omega (arith, s .pre .2, bytes-small (s .args .n) (s .pre .1))
 
 loop-less : tie.Need-loop-less Inv-loop μ-loop
 loop-less c = omega arith

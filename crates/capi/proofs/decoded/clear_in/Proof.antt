@@ -29,7 +29,11 @@ same-length-4 : tie.Need-same-length-4
 same-length-4 c = search needs
 
 returns : tie.Need-returns
-returns c = in-bytes clearCall _ (state (now (c .before .before .before .before .before .before .before .before .before .before .before .before .before .before .before .before .before .before .before .before .before .before .before .before .args .links)) (now (c .before .before .before .before .before .before .before .before .before .before .before .before .before .before .before .before .before .before .before .before .before .before .before .before .args .figures)) (now (c .before .before .before .before .before .before .before .before .before .before .before .before .before .before .before .before .before .before .before .before .before .before .before .before .args .marks))) (c .before .before .before .before .before .before .before .before .before .before .before .before .before .before .before .before .before .read .ensures) (c .before .before .before .before .before .before .before .before .before .before .before .clear .ensures) clear-keeps (c .before .before .write-back .ensures .0) (c .before .before .write-back .ensures .1)
+returns c =
+    let at-clear = c .before .before .before .before .before .before .before .before .before .before .before in
+    let at-read = at-clear .before .before .before .before .before .before in
+    let s = at-read .before .before .before .before .before .before .before in
+    in-bytes clearCall _ (state (now (s .args .links)) (now (s .args .figures)) (now (s .args .marks))) (at-read .read .ensures) (at-clear .clear .ensures) clear-keeps (c .before .before .write-back .ensures .0) (c .before .before .write-back .ensures .1)
 
 pub clear-in-spec : {M : Type 1} → statement M
 clear-in-spec =

@@ -29,7 +29,11 @@ same-length-4 : tie.Need-same-length-4
 same-length-4 c = search needs
 
 returns : tie.Need-returns
-returns c = in-bytes (λ s. removeCall s (c .before .before .before .before .before .before .before .before .before .before .before .before .before .before .before .before .before .before .before .before .before .before .before .before .args .a) (c .before .before .before .before .before .before .before .before .before .before .before .before .before .before .before .before .before .before .before .before .before .before .before .before .args .b)) _ (state (now (c .before .before .before .before .before .before .before .before .before .before .before .before .before .before .before .before .before .before .before .before .before .before .before .before .args .links)) (now (c .before .before .before .before .before .before .before .before .before .before .before .before .before .before .before .before .before .before .before .before .before .before .before .before .args .figures)) (now (c .before .before .before .before .before .before .before .before .before .before .before .before .before .before .before .before .before .before .before .before .before .before .before .before .args .marks))) (c .before .before .before .before .before .before .before .before .before .before .before .before .before .before .before .before .before .read .ensures) (c .before .before .before .before .before .before .before .before .before .before .before .remove .ensures) (remove-keeps (c .before .before .before .before .before .before .before .before .before .before .before .before .before .before .before .before .before .before .before .before .before .before .before .before .args .a) (c .before .before .before .before .before .before .before .before .before .before .before .before .before .before .before .before .before .before .before .before .before .before .before .before .args .b)) (c .before .before .write-back .ensures .0) (c .before .before .write-back .ensures .1)
+returns c =
+    let at-remove = c .before .before .before .before .before .before .before .before .before .before .before in
+    let at-read = at-remove .before .before .before .before .before .before in
+    let s = at-read .before .before .before .before .before .before .before in
+    in-bytes (λ t. removeCall t (s .args .a) (s .args .b)) _ (state (now (s .args .links)) (now (s .args .figures)) (now (s .args .marks))) (at-read .read .ensures) (at-remove .remove .ensures) (remove-keeps (s .args .a) (s .args .b)) (c .before .before .write-back .ensures .0) (c .before .before .write-back .ensures .1)
 
 pub remove-in-spec : {M : Type 1} → statement M
 remove-in-spec =

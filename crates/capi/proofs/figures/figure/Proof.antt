@@ -56,7 +56,9 @@ number-requires : tie.Need-number-requires
 number-requires c κs = search needs
 
 returns : tie.Need-returns
-returns c = figure-is _ (c .before .before .before .before .before .before .before .before .before .before .args .p) (c .number .ensures)
+returns c =
+    let s = c .before .before .before .before .before .before .before .before .before .before in
+    figure-is _ (s .args .p) (c .number .ensures)
 
 pub figure-spec : {M : Type 1} → statement M
 figure-spec =

@@ -82,7 +82,14 @@ same-length : tie.Need-same-length
 same-length c = simp length-set
 
 returns : tie.Need-returns
-returns c = put-is _ (c .before .before .before .before .before .before .before .before .before .args .p) (c .before .before .before .before .before .before .before .before .before .args .x) (c .before .before .before .before .before .before .before .low .ensures) (c .before .before .before .before .before .before .low2 .ensures) (c .before .before .before .before .before .low3 .ensures) (c .before .before .before .before .low4 .ensures) (c .before .before .before .low5 .ensures) (c .before .before .low6 .ensures) (c .before .low7 .ensures) (c .low8 .ensures)
+returns c =
+    let at-low5 = c .before .before .before in
+    let at-low4 = at-low5 .before in
+    let at-low3 = at-low4 .before in
+    let at-low2 = at-low3 .before in
+    let at-low = at-low2 .before in
+    let s = at-low .before .before in
+    put-is _ (s .args .p) (s .args .x) (at-low .low .ensures) (at-low2 .low2 .ensures) (at-low3 .low3 .ensures) (at-low4 .low4 .ensures) (at-low5 .low5 .ensures) (c .before .before .low6 .ensures) (c .before .low7 .ensures) (c .low8 .ensures)
 
 pub put-spec : {M : Type 1} → statement M
 put-spec =

@@ -27,7 +27,9 @@ shared-slice-read-put : tie.Need-shared-slice-read-put Inv-loop μ-loop
 shared-slice-read-put c = omega arith
 
 put-requires : tie.Need-put-requires Inv-loop μ-loop
-put-requires c κs = omega (arith, c .before .before .before .loop .inv .1, fill-length _ _ (8 * c .before .before .before .loop .p) (c .before .before .before .loop .inv .2))
+put-requires c κs =
+    let at-loop = c .before .before .before in
+    omega (arith, at-loop .loop .inv .1, fill-length _ _ (8 * at-loop .loop .p) (at-loop .loop .inv .2))
 
 add-p : tie.Need-add-p Inv-loop μ-loop
 add-p c = omega arith
@@ -36,7 +38,9 @@ loop-less : tie.Need-loop-less Inv-loop μ-loop
 loop-less c = omega arith
 
 loop-again : tie.Need-loop-again Inv-loop μ-loop
-loop-again c = (omega arith, c .before .before .before .before .before .before .loop .inv .1, put-step _ _ (c .before .before .before .before .before .before .loop .p) (c .before .before .before .before .before .before .loop .inv .2) (c .before .before .put .ensures))
+loop-again c =
+    let at-loop = c .before .before .before .before .before .before in
+    (omega arith, at-loop .loop .inv .1, put-step _ _ (at-loop .loop .p) (at-loop .loop .inv .2) (c .before .before .put .ensures))
 
 same-length : tie.Need-same-length Inv-loop μ-loop
 same-length c = fill-length _ _ (8 * c .before .loop .p) (c .before .loop .inv .2)

@@ -50,9 +50,10 @@ same-length c = search needs
 returns-2 : tie.Need-returns-2
 unfolding addCall
 returns-2 c =
-    let s = c .before .before .before .before .before .before .before .before in
+    let sized = c .before .before .before in
+    let s = sized .before .before .before .before .before in
     let cs = pairConditions (length (now (s .args .figures))) (s .args .a) (s .args .b) ++ edgePresent (edge (now (s .args .edges))) (s .args .a) (s .args .b) ∷ [] in
-    call-refused (given s) _ _ (fits (c .before .before .before)) (sym (append-refused cs _ (sym (c .before .add-refusal .ensures)) (c .if2 .taken))) (c .if2 .taken)
+    call-refused (given s) _ _ (fits sized) (sym (append-refused cs _ (sym (c .before .add-refusal .ensures)) (c .if2 .taken))) (c .if2 .taken)
 
 touched-of-requires : tie.Need-touched-of-requires
 touched-of-requires c κs =
@@ -74,27 +75,44 @@ same-length-2 c = search needs
 returns-3 : tie.Need-returns-3
 unfolding addCall
 returns-3 c =
-    call-refused (given (c .before .before .before .before .before .before .before .before .before .before .before .before .before .before .before)) _ _ (fits (c .before .before .before .before .before .before .before .before .before .before))
-    (add-refused (room (c .before .before .before .before .before .before .before) .room) (c .before .before .before .before .before .touched-of .ensures .0) (c .before .before .degrees-of .ensures) (pair (c .before .before .before .before .before .before .before)) (c .before .add-crowded .ensures)) (c .if3 .taken)
+    let at-touched-of = c .before .before .before .before .before in
+    let paired = at-touched-of .before .before in
+    let sized = paired .before .before .before in
+    let s = sized .before .before .before .before .before in
+    call-refused (given s) _ _ (fits sized)
+    (add-refused (room paired .room) (at-touched-of .touched-of .ensures .0) (c .before .before .degrees-of .ensures) (pair paired) (c .before .add-crowded .ensures)) (c .if3 .taken)
 
 link-requires : tie.Need-link-requires
 link-requires c κs =
-    let s = c .before .before .before .before .before .before .before .before .before .before .before .before .before .before .before .before in
-    let e = room (c .before .before .before .before .before .before .before .before) in
+    let paired = c .before .before .before .before .before .before .before .before in
+    let s = paired .before .before .before .before .before .before .before .before in
+    let e = room paired in
     room-within (s .args .a) (s .args .b) _ _ (e .firstBelow) (e .secondBelow) (e .room)
 
 mark-each-requires : tie.Need-mark-each-requires
-mark-each-requires c κs = mark-ready (room (c .before .before .before .before .before .before .before .before .before .before .before .before)) (c .before .before .before .before .before .before .before .before .before .before .touched-of .ensures .0)
+mark-each-requires c κs =
+    let at-touched-of = c .before .before .before .before .before .before .before .before .before .before in
+    let paired = at-touched-of .before .before in
+    mark-ready (room paired) (at-touched-of .touched-of .ensures .0)
 
 gained-requires : tie.Need-gained-requires
 gained-requires c κs =
-    gained-ready (room (c .before .before .before .before .before .before .before .before .before .before .before .before .before .before .before .before) .room) (c .before .before .before .before .before .before .before .before .before .before .before .before .before .before .touched-of .ensures .0) (c .before .before .before .before .before .before .before .before .before .before .before .degrees-of .ensures) (pair (c .before .before .before .before .before .before .before .before .before .before .before .before .before .before .before .before)) (c .before .before .before .before .before .before .before .before .before .before .add-crowded .ensures) (c .before .before .before .before .before .before .before .before .before .if3 .left)
+    let at-if3 = c .before .before .before .before .before .before .before .before .before in
+    let at-add-crowded = at-if3 .before in
+    let at-degrees-of = at-add-crowded .before in
+    let at-touched-of = at-degrees-of .before .before .before in
+    let paired = at-touched-of .before .before in
+    gained-ready (room paired .room) (at-touched-of .touched-of .ensures .0) (at-degrees-of .degrees-of .ensures) (pair paired) (at-add-crowded .add-crowded .ensures) (at-if3 .if3 .left)
 
 bound-each-requires : tie.Need-bound-each-requires
 bound-each-requires c κs =
-    let e = room (c .before .before .before .before .before .before .before .before .before .before .before .before .before .before .before .before .before) in
-    let t = c .before .before .before .before .before .before .before .before .before .before .before .before .before .before .before .touched-of .ensures .0 in
-    bound-ready e t (t .two) (gained-at (e .room) t (c .before .before .before .before .before .before .before .before .before .before .before .before .degrees-of .ensures) (pair (c .before .before .before .before .before .before .before .before .before .before .before .before .before .before .before .before .before)) (c .before .before .before .before .before .before .before .before .link .ensures) (c .gained .ensures))
+    let at-link = c .before .before .before .before .before .before .before .before in
+    let at-degrees-of = at-link .before .before .before .before in
+    let at-touched-of = at-degrees-of .before .before .before in
+    let paired = at-touched-of .before .before in
+    let e = room paired in
+    let t = at-touched-of .touched-of .ensures .0 in
+    bound-ready e t (t .two) (gained-at (e .room) t (at-degrees-of .degrees-of .ensures) (pair paired) (at-link .link .ensures) (c .gained .ensures))
 
 same-length-3 : tie.Need-same-length-3
 same-length-3 c = search needs
@@ -108,12 +126,23 @@ same-length-5 c = search needs
 returns-4 : tie.Need-returns-4
 unfolding addCall
 returns-4 c =
-    let e = room (c .before .before .before .before .before .before .before .before .before .before .before .before .before .before .before .before .before .before .before .before) in
-    let t = c .before .before .before .before .before .before .before .before .before .before .before .before .before .before .before .before .before .before .touched-of .ensures .0 in
-    let d = c .before .before .before .before .before .before .before .before .before .before .before .before .before .before .before .degrees-of .ensures in
-    let p = pair (c .before .before .before .before .before .before .before .before .before .before .before .before .before .before .before .before .before .before .before .before) in
-    call-accepted (given (c .before .before .before .before .before .before .before .before .before .before .before .before .before .before .before .before .before .before .before .before .before .before .before .before .before .before .before .before)) _ _ (fits (c .before .before .before .before .before .before .before .before .before .before .before .before .before .before .before .before .before .before .before .before .before .before .before)) (add-refused (e .room) t d p (c .before .before .before .before .before .before .before .before .before .before .before .before .before .before .add-crowded .ensures)) (c .before .before .before .before .before .before .before .before .before .before .before .before .before .if3 .left)
-    (added-by e t (λ k. c .before .before .before .before .before .before .before .before .before .before .before .before .before .before .before .before .before .before .before .before .before .before .before .before .before .slice-known3 .given k .fits) (c .before .before .before .before .before .before .before .mark-each .ensures) (c .before .before .before .before .before .before .before .before .before .before .before .link .ensures) (gained-at (e .room) t d p (c .before .before .before .before .before .before .before .before .before .before .before .link .ensures) (c .before .before .before .gained .ensures)) (c .before .before .bound-each .ensures))
+    let at-gained = c .before .before .before in
+    let at-mark-each = at-gained .before .before .before .before in
+    let at-link = at-mark-each .before .before .before .before in
+    let at-if3 = at-link .before .before in
+    let at-add-crowded = at-if3 .before in
+    let at-degrees-of = at-add-crowded .before in
+    let at-touched-of = at-degrees-of .before .before .before in
+    let paired = at-touched-of .before .before in
+    let sized = paired .before .before .before in
+    let at-slice-known3 = sized .before .before in
+    let s = at-slice-known3 .before .before .before in
+    let e = room paired in
+    let t = at-touched-of .touched-of .ensures .0 in
+    let d = at-degrees-of .degrees-of .ensures in
+    let p = pair paired in
+    call-accepted (given s) _ _ (fits sized) (add-refused (e .room) t d p (at-add-crowded .add-crowded .ensures)) (at-if3 .if3 .left)
+    (added-by e t (λ k. at-slice-known3 .slice-known3 .given k .fits) (at-mark-each .mark-each .ensures) (at-link .link .ensures) (gained-at (e .room) t d p (at-link .link .ensures) (at-gained .gained .ensures)) (c .before .before .bound-each .ensures))
 
 pub add-spec : {M : Type 1} → statement M
 add-spec =

@@ -12,7 +12,9 @@ use Rattle.edits.proofs.edit.apply.Tie as tie
 
 -- the ends are among those that take their bounds, and these among the touched
 within : (c : tie.After-renewed-count) → (2 ≤ c .renewed-count .result) × (c .renewed-count .result ≤ c .before .before .touched-of .result .count)
-within c = renewed-within (c .before .before .before .before .before .before .before .args .on) (c .renewed-count .ensures) (c .before .before .touched-of .ensures .0 .two)
+within c =
+    let s = c .before .before .before .before .before .before .before in
+    renewed-within (s .args .on) (c .renewed-count .ensures) (c .before .before .touched-of .ensures .0 .two)
 
 touched-of-requires : tie.Need-touched-of-requires
 touched-of-requires c κs = search needs
@@ -30,10 +32,13 @@ degree-requires c κs = search needs
 
 degrees-of-requires : tie.Need-degrees-of-requires
 degrees-of-requires c κs =
-    let s = c .before .before .before .before .before .before .before .before .before .before .before .before .before in
-    let t = c .before .before .before .before .before .before .before .before .touched-of .ensures .0 in
-    let w = within (c .before .before .before .before .before .before) in (
-      room-kept (s .args .a) (s .args .b) (s .args .on) (c .before .before .before .before .link .ensures) (s .pre .room),
+    let at-link = c .before .before .before .before in
+    let here = at-link .before .before in
+    let at-touched-of = here .before .before in
+    let s = at-touched-of .before .before .before .before .before in
+    let t = at-touched-of .touched-of .ensures .0 in
+    let w = within here in (
+      room-kept (s .args .a) (s .args .b) (s .args .on) (at-link .link .ensures) (s .pre .room),
       c .degree .ensures ∙ sym (degree-is _ _ _) ∙ ap (degree _ _) (sym (t .first)),
       omega (arith, w .0),
       omega (arith, w .1, t .few),
@@ -41,10 +46,18 @@ degrees-of-requires c κs =
     )
 
 mark-each-requires : tie.Need-mark-each-requires
-mark-each-requires c κs = mark-ready (c .before .before .before .before .before .before .before .before .before .before .before .before .before .before .before .pre) (c .before .before .before .before .before .before .before .before .before .before .touched-of .ensures .0)
+mark-each-requires c κs =
+    let at-touched-of = c .before .before .before .before .before .before .before .before .before .before in
+    let s = at-touched-of .before .before .before .before .before in
+    mark-ready (s .pre) (at-touched-of .touched-of .ensures .0)
 
 bound-each-requires : tie.Need-bound-each-requires
-bound-each-requires c κs = bound-ready (c .before .before .before .before .before .before .before .before .before .before .before .before .before .before .before .before .before .before .before .pre) (c .before .before .before .before .before .before .before .before .before .before .before .before .before .before .touched-of .ensures .0) (within (c .before .before .before .before .before .before .before .before .before .before .before .before) .1) (c .before .before .before .before .before .degrees-of .ensures)
+bound-each-requires c κs =
+    let at-degrees-of = c .before .before .before .before .before in
+    let here = at-degrees-of .before .before .before .before .before .before .before in
+    let at-touched-of = here .before .before in
+    let s = at-touched-of .before .before .before .before .before in
+    bound-ready (s .pre) (at-touched-of .touched-of .ensures .0) (within here .1) (at-degrees-of .degrees-of .ensures)
 
 same-length : tie.Need-same-length
 same-length c = search needs
@@ -57,8 +70,14 @@ same-length-3 c = search needs
 
 returns : tie.Need-returns
 returns c =
-    let s = c .before .before .before .before .before .before .before .before .before .before .before .before .before .before .before .before .before .before .before .before .before .before in
-    applied-by (s .pre) (c .before .before .before .before .before .before .before .before .before .before .before .before .before .before .before .before .before .touched-of .ensures .0) (λ k. c .before .before .before .before .before .before .before .before .before .before .before .before .before .before .before .before .before .before .before .slice-known3 .given k .fits) (c .before .before .before .before .before .before .mark-each .ensures) (s .args .on) (c .before .before .before .before .before .before .before .before .before .before .before .before .before .link .ensures) (c .before .before .before .before .before .before .before .before .before .before .before .before .before .before .before .renewed-count .ensures) (c .before .before .before .before .before .before .before .before .degrees-of .ensures) (c .before .before .bound-each .ensures)
+    let at-mark-each = c .before .before .before .before .before .before in
+    let at-degrees-of = at-mark-each .before .before in
+    let at-link = at-degrees-of .before .before .before .before .before in
+    let at-renewed-count = at-link .before .before in
+    let at-touched-of = at-renewed-count .before .before in
+    let at-slice-known3 = at-touched-of .before .before in
+    let s = at-slice-known3 .before .before .before in
+    applied-by (s .pre) (at-touched-of .touched-of .ensures .0) (λ k. at-slice-known3 .slice-known3 .given k .fits) (at-mark-each .mark-each .ensures) (s .args .on) (at-link .link .ensures) (at-renewed-count .renewed-count .ensures) (at-degrees-of .degrees-of .ensures) (c .before .before .bound-each .ensures)
 
 pub apply-spec : {M : Type 1} → statement M
 apply-spec =

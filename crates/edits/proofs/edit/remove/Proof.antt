@@ -51,9 +51,10 @@ same-length c = search needs
 returns-2 : tie.Need-returns-2
 unfolding removeCall
 returns-2 c =
-    let s = c .before .before .before .before .before .before .before .before in
+    let sized = c .before .before .before in
+    let s = sized .before .before .before .before .before in
     let cs = pairConditions (length (now (s .args .figures))) (s .args .a) (s .args .b) ++ edgeAbsent (edge (now (s .args .edges))) (s .args .a) (s .args .b) ∷ [] in
-    call-refused (given s) _ _ (fits (c .before .before .before)) (sym (append-refused cs _ (sym (c .before .remove-refusal .ensures)) (c .if2 .taken))) (c .if2 .taken)
+    call-refused (given s) _ _ (fits sized) (sym (append-refused cs _ (sym (c .before .remove-refusal .ensures)) (c .if2 .taken))) (c .if2 .taken)
 
 touched-of-requires : tie.Need-touched-of-requires
 touched-of-requires c κs =
@@ -75,26 +76,42 @@ same-length-2 c = search needs
 returns-3 : tie.Need-returns-3
 unfolding removeCall
 returns-3 c =
-    call-refused (given (c .before .before .before .before .before .before .before .before .before .before .before .before .before .before .before)) _ _ (fits (c .before .before .before .before .before .before .before .before .before .before))
-    (remove-crowded (room (c .before .before .before .before .before .before .before) .room) (c .before .before .before .before .before .touched-of .ensures .0) (c .before .before .degrees-of .ensures) (pair (c .before .before .before .before .before .before .before)) (sym (c .before .any-above .ensures) ∙ c .if3 .taken)) (λ e. omega arith)
+    let at-touched-of = c .before .before .before .before .before in
+    let paired = at-touched-of .before .before in
+    let sized = paired .before .before .before in
+    let s = sized .before .before .before .before .before in
+    call-refused (given s) _ _ (fits sized)
+    (remove-crowded (room paired .room) (at-touched-of .touched-of .ensures .0) (c .before .before .degrees-of .ensures) (pair paired) (sym (c .before .any-above .ensures) ∙ c .if3 .taken)) (λ e. omega arith)
 
 link-requires : tie.Need-link-requires
 link-requires c κs =
-    let s = c .before .before .before .before .before .before .before .before .before .before .before .before .before .before .before .before in
-    let e = room (c .before .before .before .before .before .before .before .before) in
+    let paired = c .before .before .before .before .before .before .before .before in
+    let s = paired .before .before .before .before .before .before .before .before in
+    let e = room paired in
     room-within (s .args .a) (s .args .b) _ _ (e .firstBelow) (e .secondBelow) (e .room)
 
 mark-each-requires : tie.Need-mark-each-requires
-mark-each-requires c κs = mark-ready (room (c .before .before .before .before .before .before .before .before .before .before .before .before)) (c .before .before .before .before .before .before .before .before .before .before .touched-of .ensures .0)
+mark-each-requires c κs =
+    let at-touched-of = c .before .before .before .before .before .before .before .before .before .before in
+    let paired = at-touched-of .before .before in
+    mark-ready (room paired) (at-touched-of .touched-of .ensures .0)
 
 lost-requires : tie.Need-lost-requires
-lost-requires c κs = lost-ready (room (c .before .before .before .before .before .before .before .before .before .before .before .before .before .before .before .before) .room) (c .before .before .before .before .before .before .before .before .before .before .before .before .before .before .touched-of .ensures .0) (c .before .before .before .before .before .before .before .before .before .before .before .degrees-of .ensures) (pair (c .before .before .before .before .before .before .before .before .before .before .before .before .before .before .before .before))
+lost-requires c κs =
+    let at-degrees-of = c .before .before .before .before .before .before .before .before .before .before .before in
+    let at-touched-of = at-degrees-of .before .before .before in
+    let paired = at-touched-of .before .before in
+    lost-ready (room paired .room) (at-touched-of .touched-of .ensures .0) (at-degrees-of .degrees-of .ensures) (pair paired)
 
 bound-each-requires : tie.Need-bound-each-requires
 bound-each-requires c κs =
-    let e = room (c .before .before .before .before .before .before .before .before .before .before .before .before .before .before .before .before .before) in
-    let t = c .before .before .before .before .before .before .before .before .before .before .before .before .before .before .before .touched-of .ensures .0 in
-    bound-ready e t (le-refl _) (lost-at (e .room) t (c .before .before .before .before .before .before .before .before .before .before .before .before .degrees-of .ensures) (pair (c .before .before .before .before .before .before .before .before .before .before .before .before .before .before .before .before .before)) (c .before .before .before .before .before .before .before .before .link .ensures) (c .lost .ensures))
+    let at-link = c .before .before .before .before .before .before .before .before in
+    let at-degrees-of = at-link .before .before .before .before in
+    let at-touched-of = at-degrees-of .before .before .before in
+    let paired = at-touched-of .before .before in
+    let e = room paired in
+    let t = at-touched-of .touched-of .ensures .0 in
+    bound-ready e t (le-refl _) (lost-at (e .room) t (at-degrees-of .degrees-of .ensures) (pair paired) (at-link .link .ensures) (c .lost .ensures))
 
 same-length-3 : tie.Need-same-length-3
 same-length-3 c = search needs
@@ -108,12 +125,23 @@ same-length-5 c = search needs
 returns-4 : tie.Need-returns-4
 unfolding removeCall
 returns-4 c =
-    let e = room (c .before .before .before .before .before .before .before .before .before .before .before .before .before .before .before .before .before .before .before .before) in
-    let t = c .before .before .before .before .before .before .before .before .before .before .before .before .before .before .before .before .before .before .touched-of .ensures .0 in
-    let d = c .before .before .before .before .before .before .before .before .before .before .before .before .before .before .before .degrees-of .ensures in
-    let p = pair (c .before .before .before .before .before .before .before .before .before .before .before .before .before .before .before .before .before .before .before .before) in
-    call-accepted (given (c .before .before .before .before .before .before .before .before .before .before .before .before .before .before .before .before .before .before .before .before .before .before .before .before .before .before .before .before)) _ _ (fits (c .before .before .before .before .before .before .before .before .before .before .before .before .before .before .before .before .before .before .before .before .before .before .before)) (remove-accepted (e .room) t d p (sym (c .before .before .before .before .before .before .before .before .before .before .before .before .before .before .any-above .ensures) ∙ c .before .before .before .before .before .before .before .before .before .before .before .before .before .if3 .left)) refl
-    (removed-by e t (λ k. c .before .before .before .before .before .before .before .before .before .before .before .before .before .before .before .before .before .before .before .before .before .before .before .before .before .slice-known3 .given k .fits) (c .before .before .before .before .before .before .before .mark-each .ensures) (c .before .before .before .before .before .before .before .before .before .before .before .link .ensures) (lost-at (e .room) t d p (c .before .before .before .before .before .before .before .before .before .before .before .link .ensures) (c .before .before .before .lost .ensures)) (c .before .before .bound-each .ensures))
+    let at-lost = c .before .before .before in
+    let at-mark-each = at-lost .before .before .before .before in
+    let at-link = at-mark-each .before .before .before .before in
+    let at-if3 = at-link .before .before in
+    let at-any-above = at-if3 .before in
+    let at-degrees-of = at-any-above .before in
+    let at-touched-of = at-degrees-of .before .before .before in
+    let paired = at-touched-of .before .before in
+    let sized = paired .before .before .before in
+    let at-slice-known3 = sized .before .before in
+    let s = at-slice-known3 .before .before .before in
+    let e = room paired in
+    let t = at-touched-of .touched-of .ensures .0 in
+    let d = at-degrees-of .degrees-of .ensures in
+    let p = pair paired in
+    call-accepted (given s) _ _ (fits sized) (remove-accepted (e .room) t d p (sym (at-any-above .any-above .ensures) ∙ at-if3 .if3 .left)) refl
+    (removed-by e t (λ k. at-slice-known3 .slice-known3 .given k .fits) (at-mark-each .mark-each .ensures) (at-link .link .ensures) (lost-at (e .room) t d p (at-link .link .ensures) (at-lost .lost .ensures)) (c .before .before .bound-each .ensures))
 
 pub remove-spec : {M : Type 1} → statement M
 remove-spec =

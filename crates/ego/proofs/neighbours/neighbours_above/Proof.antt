@@ -49,12 +49,16 @@ array-write-nodes : tie.Need-array-write-nodes Inv-loop μ-loop
 array-write-nodes c = omega arith
 
 add-count : tie.Need-add-count Inv-loop μ-loop
-add-count c = omega (arith, found-few (c .before .before .before .before .loop .inv .3), c .before .before .before .before .before .before .before .before .pre .1 .few)
+add-count c =
+    let at-loop = c .before .before .before .before in
+    let s = at-loop .before .before .before .before in
+    omega (arith, found-few (at-loop .loop .inv .3), s .pre .1 .few)
 
 add-i-2 : tie.Need-add-i-2 Inv-loop μ-loop
 add-i-2 c =
-    let s = c .before .before .before .before .before .before .before in
-    omega (arith, s .pre .1 .few, pairs-few {n = c .before .before .before .loop .q} (omega (arith, s .pre .1 .few)))
+    let at-loop = c .before .before .before in
+    let s = at-loop .before .before .before .before in
+    omega (arith, s .pre .1 .few, pairs-few {n = at-loop .loop .q} (omega (arith, s .pre .1 .few)))
 
 add-q-2 : tie.Need-add-q-2 Inv-loop μ-loop
 add-q-2 c = omega arith
@@ -64,10 +68,11 @@ loop-less c = omega arith
 
 loop-again : tie.Need-loop-again Inv-loop μ-loop
 loop-again c =
-    let s = c .before .before .before .before .before .before .before in
+    let at-loop = c .before .before .before in
+    let s = at-loop .before .before .before .before in
     let es = s .args .edges .now in
-    let q = c .before .before .before .loop .q in
-    let inv = c .before .before .before .loop .inv in
+    let q = at-loop .loop .q in
+    let inv = at-loop .loop .inv in
     let is = edge-above es (s .args .p) q (inv .0) ∙ ap (bitAt es) (sym (inv .2)) ∙ sym (c .before .get .ensures) in (
       omega arith,
       omega arith,

@@ -50,22 +50,30 @@ add-count c =
     omega (arith, found-few (c .before .before .loop .inv .1), row-few (s .args .p) (s .pre))
 
 add-next-set-2 : tie.Need-add-next-set-2 Inv-loop μ-loop
-add-next-set-2 c = let s = c .before .before .before .before .before .before in omega (arith, row-few (s .args .p) (s .pre))
+add-next-set-2 c =
+    let s = c .before .before .before .before .before .before in
+    omega (arith, row-few (s .args .p) (s .pre))
 
 add-next-set-3 : tie.Need-add-next-set-3 Inv-loop μ-loop
-add-next-set-3 c = let s = c .before .before .before .before .before .before in omega (arith, row-few (s .args .p) (s .pre))
+add-next-set-3 c =
+    let s = c .before .before .before .before .before .before in
+    omega (arith, row-few (s .args .p) (s .pre))
 
 next-set-requires-2 : tie.Need-next-set-requires-2 Inv-loop μ-loop
-next-set-requires-2 c κs = let s = c .before .before .before .before .before .before in (omega arith, omega (arith, row-within (s .args .p) (s .pre)))
+next-set-requires-2 c κs =
+    let s = c .before .before .before .before .before .before in
+    (omega arith, omega (arith, row-within (s .args .p) (s .pre)))
 
 loop-less : tie.Need-loop-less Inv-loop μ-loop
 loop-less c = omega (arith, c .next-set2 .ensures .start)
 
 loop-again : tie.Need-loop-again Inv-loop μ-loop
 loop-again c =
-    let s = c .before .before .before .before .before .before .before in
-    let start = c .before .before .before .before .before .row-start .ensures in
-    let inv = c .before .before .before .loop .inv in
+    let at-loop = c .before .before .before in
+    let at-row-start = at-loop .before .before in
+    let s = at-row-start .before .before in
+    let start = at-row-start .row-start .ensures in
+    let inv = at-loop .loop .inv in
     let on = inv .0 .linked (c .before .before .loop-test .taken) in (
       reached (s .args .edges .now) (s .args .p) start (omega (arith, inv .0 .low)) (c .next-set2 .ensures),
       row-more _ start (inv .0 .low)

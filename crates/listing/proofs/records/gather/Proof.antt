@@ -27,9 +27,11 @@ array-borrow-prefix-numbers c = search needs
 
 slice-aggregate-list : tie.Need-slice-aggregate-list
 slice-aggregate-list c =
-    let m = c .before .before .before .rows-of .result in
-    let N = c .before .before .before .before .blank .result in
-    sym (length-take-le (2 * m) N (omega (arith, c .before .before .before .rows-of .ensures, c .before .before .before .before .blank .ensures)))
+    let at-rows-of = c .before .before .before in
+    let at-blank = at-rows-of .before in
+    let m = at-rows-of .rows-of .result in
+    let N = at-blank .blank .result in
+    sym (length-take-le (2 * m) N (omega (arith, at-rows-of .rows-of .ensures, at-blank .blank .ensures)))
 
 list-requires : tie.Need-list-requires
 list-requires c κs = search needs
@@ -45,10 +47,13 @@ same-length-3 c = search needs
 
 returns : tie.Need-returns
 returns c =
-    let s = c .before .before .before .before .before .before .before .before .before .before .before .before .before .before .before .before .before .before .before in
-    let m = c .before .before .before .before .before .before .before .before .before .before .before .before .before .rows-of in
-    let N = c .before .before .before .before .before .before .before .before .before .before .before .before .before .before .blank in
-    let l = c .before .before .before .before .before .before .before .before .list in
+    let at-list = c .before .before .before .before .before .before .before .before in
+    let at-rows-of = at-list .before .before .before .before .before in
+    let at-blank = at-rows-of .before in
+    let s = at-blank .before .before .before .before .before in
+    let m = at-rows-of .rows-of in
+    let N = at-blank .blank in
+    let l = at-list .list in
     let e : length (take (2 * m .result) (N .result)) ≡ 2 * min (s .args .k) rows =
     length-take-le (2 * m .result) (N .result) (omega (arith, m .ensures, N .ensures)) ∙ ap (λ (i : ℕ). 2 * i) (m .ensures) in
     gather-refused (state (now (s .args .edges)) (now (s .args .figures)) (now (s .args .marks))) (now (s .args .scratch)) (s .args .k) (take (2 * m .result) (N .result)) e (l .result)
@@ -65,10 +70,13 @@ same-length-6 c = search needs
 
 returns-2 : tie.Need-returns-2
 returns-2 c =
-    let s = c .before .before .before .before .before .before .before .before .before .before .before .before .before .before .before .before .before .before .before in
-    let m = c .before .before .before .before .before .before .before .before .before .before .before .before .before .rows-of in
-    let N = c .before .before .before .before .before .before .before .before .before .before .before .before .before .before .blank in
-    let l = c .before .before .before .before .before .before .before .before .list in
+    let at-list = c .before .before .before .before .before .before .before .before in
+    let at-rows-of = at-list .before .before .before .before .before in
+    let at-blank = at-rows-of .before in
+    let s = at-blank .before .before .before .before .before in
+    let m = at-rows-of .rows-of in
+    let N = at-blank .blank in
+    let l = at-list .list in
     let e : length (take (2 * m .result) (N .result)) ≡ 2 * min (s .args .k) rows =
     length-take-le (2 * m .result) (N .result) (omega (arith, m .ensures, N .ensures)) ∙ ap (λ (i : ℕ). 2 * i) (m .ensures) in
     gather-taken (state (now (s .args .edges)) (now (s .args .figures)) (now (s .args .marks))) (now (s .args .scratch)) (s .args .k) (take (2 * m .result) (N .result)) e (l .result)

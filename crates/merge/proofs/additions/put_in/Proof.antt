@@ -44,16 +44,22 @@ same-length-4 c = search needs
 
 returns-2 : tie.Need-returns-2
 returns-2 c =
-    let s = c .before .before .before .before .before .before .before .before .before .before .before .before .before .before .before .before .before .before .before .before in
-    in-there (edge (now (s .args .theirs))) (edge (now (s .args .base))) (s .args .a) (s .args .b) (state (now (s .args .edges)) (now (s .args .figures)) (now (s .args .marks))) (sym (c .before .before .before .before .before .before .before .before .before .before .before .before .before .takes .ensures) ∙ not-false _ (c .before .before .before .before .before .before .before .before .before .before .before .before .if1 .left)) (sym (c .before .before .before .before .before .before .before .before .before .before .before .has .ensures) ∙ c .before .before .before .before .before .before .before .before .before .before .if2 .taken) (c .before .before .before .before .before .before .apply-add .ensures)
+    let at-apply-add = c .before .before .before .before .before .before in
+    let at-if2 = at-apply-add .before .before .before .before in
+    let at-has = at-if2 .before in
+    let at-if1 = at-has .before in
+    let at-takes = at-if1 .before in
+    let s = at-takes .before .before .before .before .before .before .before in
+    in-there (edge (now (s .args .theirs))) (edge (now (s .args .base))) (s .args .a) (s .args .b) (state (now (s .args .edges)) (now (s .args .figures)) (now (s .args .marks))) (sym (at-takes .takes .ensures) ∙ not-false _ (at-if1 .if1 .left)) (sym (at-has .has .ensures) ∙ at-if2 .if2 .taken) (at-apply-add .apply-add .ensures)
 
 same-length-5 : tie.Need-same-length-5
 same-length-5 c = search needs
 
 returns-3 : tie.Need-returns-3
 returns-3 c =
-    let s = c .before .before .before .before .before .before .before .before .before .before in
-    in-gone (edge (now (s .args .theirs))) (edge (now (s .args .base))) (s .args .a) (s .args .b) (state (now (s .args .edges)) (now (s .args .figures)) (now (s .args .marks))) (sym (c .before .before .before .takes .ensures) ∙ not-false _ (c .before .before .if1 .left)) (sym (c .before .has .ensures) ∙ c .if2 .left)
+    let at-takes = c .before .before .before in
+    let s = at-takes .before .before .before .before .before .before .before in
+    in-gone (edge (now (s .args .theirs))) (edge (now (s .args .base))) (s .args .a) (s .args .b) (state (now (s .args .edges)) (now (s .args .figures)) (now (s .args .marks))) (sym (at-takes .takes .ensures) ∙ not-false _ (c .before .before .if1 .left)) (sym (c .before .has .ensures) ∙ c .if2 .left)
 
 pub put-in-spec : {M : Type 1} → statement M
 put-in-spec =

@@ -25,8 +25,9 @@ loop-holds c = (search needs, search needs, refl, refl, refl, pairs-none _ _)
 
 put-in-row-requires : tie.Need-put-in-row-requires Inv-loop μ-loop
 put-in-row-requires c κs =
-    let at = c .before .before .before .before .loop in
-    let s = c .before .before .before .before .before .before .before .before .before .before in (
+    let at-loop = c .before .before .before .before in
+    let s = at-loop .before .before .before .before .before .before in
+    let at = at-loop .loop in (
       omega (arith, at .inv .1, at .inv .3),
       aligned-kept (s .pre) (at .inv .2) (at .inv .3) (at .inv .4),
     )
@@ -39,15 +40,17 @@ loop-less c = omega arith
 
 loop-again : tie.Need-loop-again Inv-loop μ-loop
 loop-again c =
-    let at = c .before .before .before .before .before .before .before .before .before .before .before .loop in
-    let s = c .before .before .before .before .before .before .before .before .before .before .before .before .before .before .before .before .before in
-    let kept = c .before .before .before .before .before .before .put-in-row .kept in (
+    let at-put-in-row = c .before .before .before .before .before .before in
+    let at-loop = at-put-in-row .before .before .before .before .before in
+    let s = at-loop .before .before .before .before .before .before in
+    let at = at-loop .loop in
+    let kept = at-put-in-row .put-in-row .kept in (
       omega arith,
       at .inv .1,
       kept .0 ∙ at .inv .2,
       kept .1 .0 ∙ at .inv .3,
       kept .1 .1 .0 ∙ at .inv .4,
-      pairs-step (putIn (edge (now (s .args .theirs))) (edge (now (s .args .base)))) _ (at .b) (at .inv .5) (c .before .before .before .before .before .before .put-in-row .ensures),
+      pairs-step (putIn (edge (now (s .args .theirs))) (edge (now (s .args .base)))) _ (at .b) (at .inv .5) (at-put-in-row .put-in-row .ensures),
     )
 
 same-length : tie.Need-same-length Inv-loop μ-loop

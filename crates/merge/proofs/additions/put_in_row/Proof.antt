@@ -51,8 +51,9 @@ loop-holds c =
 
 put-in-requires : tie.Need-put-in-requires Inv-loop μ-loop
 put-in-requires c κs =
-    let at = c .before .before .before .before .loop in
-    let s = c .before .before .before .before .before .before .before .before .before .before .before .before .before in (
+    let at-loop = c .before .before .before .before in
+    let s = at-loop .before .before .before .before .before .before .before .before .before in
+    let at = at-loop .loop in (
       omega (arith, at .inv .2),
       omega (arith, at .inv .2),
       aligned-kept (s .pre .1) (at .inv .1) (at .inv .2) (at .inv .3),
@@ -71,9 +72,11 @@ loop-less c = omega (arith, c .next-changed2 .ensures .start)
 
 loop-again : tie.Need-loop-again Inv-loop μ-loop
 loop-again c =
-    let at = c .before .before .before .before .before .before .before .before .before .before .before .before .loop in
-    let s = c .before .before .before .before .before .before .before .before .before .before .before .before .before .before .before .before .before .before .before .before .before in
-    let call = c .before .before .before .before .before .before .before .put-in in
+    let at-put-in = c .before .before .before .before .before .before .before in
+    let at-loop = at-put-in .before .before .before .before .before in
+    let s = at-loop .before .before .before .before .before .before .before .before .before in
+    let at = at-loop .loop in
+    let call = at-put-in .put-in in
     let theirs = edge (now (s .args .theirs)) in
     let base = edge (now (s .args .base)) in (
       c .next-changed2 .ensures .stop,

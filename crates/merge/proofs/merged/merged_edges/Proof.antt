@@ -38,26 +38,31 @@ shared-slice-read-merged-byte c =
 
 shared-slice-read-merged-byte-2 : tie.Need-shared-slice-read-merged-byte-2 Inv-loop μ-loop
 shared-slice-read-merged-byte-2 c =
-    let s = c .before .before .before .before .before .before .before .before in
-    bytes-within (s .pre .1) (c .before .before .before .loop .inv .1) (c .before .before .loop-test .taken)
+    let at-loop = c .before .before .before in
+    let s = at-loop .before .before .before .before .before in
+    bytes-within (s .pre .1) (at-loop .loop .inv .1) (c .before .before .loop-test .taken)
 
 shared-slice-read-merged-byte-3 : tie.Need-shared-slice-read-merged-byte-3 Inv-loop μ-loop
 shared-slice-read-merged-byte-3 c =
-    let s = c .before .before .before .before .before .before .before .before .before in
-    bytes-within (s .pre .2) (c .before .before .before .before .loop .inv .1) (c .before .before .before .loop-test .taken)
+    let at-loop-test = c .before .before .before in
+    let at-loop = at-loop-test .before in
+    let s = at-loop .before .before .before .before .before in
+    bytes-within (s .pre .2) (at-loop .loop .inv .1) (at-loop-test .loop-test .taken)
 
 merged-byte-requires : tie.Need-merged-byte-requires Inv-loop μ-loop
 merged-byte-requires c κs = search needs
 
 array-write-after : tie.Need-array-write-after Inv-loop μ-loop
 array-write-after c =
-    let s = c .before .before .before .before .before .before .before .before .before .before in
-    omega (arith, c .before .before .before .before .before .loop .inv .1, bytes-small (s .args .n) (s .pre .0 .few))
+    let at-loop = c .before .before .before .before .before in
+    let s = at-loop .before .before .before .before .before in
+    omega (arith, at-loop .loop .inv .1, bytes-small (s .args .n) (s .pre .0 .few))
 
 add-i : tie.Need-add-i Inv-loop μ-loop
 add-i c =
-    let s = c .before .before .before .before .before .before .before .before .before .before in
-    omega (arith, c .before .before .before .before .before .loop .inv .1, bytes-small (s .args .n) (s .pre .0 .few))
+    let at-loop = c .before .before .before .before .before in
+    let s = at-loop .before .before .before .before .before in
+    omega (arith, at-loop .loop .inv .1, bytes-small (s .args .n) (s .pre .0 .few))
 
 loop-less : tie.Need-loop-less Inv-loop μ-loop
 loop-less c = omega arith

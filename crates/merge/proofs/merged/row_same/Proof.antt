@@ -34,13 +34,15 @@ loop-holds c =
 
 shared-slice-read-other : tie.Need-shared-slice-read-other Inv-loop μ-loop
 shared-slice-read-other c =
-    let s = c .before .before .before .before .before .before in
-    row-byte (s .args .b) (s .pre .0) (c .before .before .before .row-start .ensures) (c .before .loop-test .taken)
+    let at-row-start = c .before .before .before in
+    let s = at-row-start .before .before .before in
+    row-byte (s .args .b) (s .pre .0) (at-row-start .row-start .ensures) (c .before .loop-test .taken)
 
 shared-slice-read-other-2 : tie.Need-shared-slice-read-other-2 Inv-loop μ-loop
 shared-slice-read-other-2 c =
-    let s = c .before .before .before .before .before .before .before in
-    row-byte (s .args .b) (s .pre .1) (c .before .before .before .before .row-start .ensures) (c .before .before .loop-test .taken)
+    let at-row-start = c .before .before .before .before in
+    let s = at-row-start .before .before .before in
+    row-byte (s .args .b) (s .pre .1) (at-row-start .row-start .ensures) (c .before .before .loop-test .taken)
 
 add-k : tie.Need-add-k Inv-loop μ-loop
 add-k c = omega arith
@@ -50,8 +52,9 @@ loop-less c = omega arith
 
 loop-again : tie.Need-loop-again Inv-loop μ-loop
 loop-again c =
-    let s = c .before .before .before .before .before .before .before in
-    collect-more (now (s .args .theirs)) (now (s .args .base)) (c .before .before .before .loop .inv)
+    let at-loop = c .before .before .before in
+    let s = at-loop .before .before .before .before in
+    collect-more (now (s .args .theirs)) (now (s .args .base)) (at-loop .loop .inv)
 
 returns : tie.Need-returns Inv-loop μ-loop
 returns c =

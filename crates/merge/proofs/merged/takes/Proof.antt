@@ -16,16 +16,19 @@ has-requires-2 c κs = search needs
 
 returns : tie.Need-returns
 returns c =
-    let s = c .before .before .before .before .before .before .before in
-    sym (takes-is (edge (now (s .args .edges))) (edge (now (s .args .theirs))) (edge (now (s .args .base))) (s .args .a) (s .args .b) (sym (c .before .before .before .has .ensures) ∙ c .before .before .if1 .taken) (sym (c .before .has2 .ensures) ∙ c .if2 .taken))
+    let at-has = c .before .before .before in
+    let s = at-has .before .before .before .before in
+    sym (takes-is (edge (now (s .args .edges))) (edge (now (s .args .theirs))) (edge (now (s .args .base))) (s .args .a) (s .args .b) (sym (at-has .has .ensures) ∙ c .before .before .if1 .taken) (sym (c .before .has2 .ensures) ∙ c .if2 .taken))
 
 has-requires-3 : tie.Need-has-requires-3
 has-requires-3 c κs = search needs
 
 returns-2 : tie.Need-returns-2
 returns-2 c =
-    let s = c .before .before .before .before .before .before .before .before in
-    ap not (c .has3 .ensures) ∙ sym (takes-is (edge (now (s .args .edges))) (edge (now (s .args .theirs))) (edge (now (s .args .base))) (s .args .a) (s .args .b) (sym (c .before .before .before .before .has .ensures) ∙ c .before .before .before .if1 .taken) (sym (c .before .before .has2 .ensures) ∙ c .before .if2 .left))
+    let at-if1 = c .before .before .before in
+    let at-has = at-if1 .before in
+    let s = at-has .before .before .before .before in
+    ap not (c .has3 .ensures) ∙ sym (takes-is (edge (now (s .args .edges))) (edge (now (s .args .theirs))) (edge (now (s .args .base))) (s .args .a) (s .args .b) (sym (at-has .has .ensures) ∙ at-if1 .if1 .taken) (sym (c .before .before .has2 .ensures) ∙ c .before .if2 .left))
 
 has-requires-4 : tie.Need-has-requires-4
 has-requires-4 c κs = search needs
@@ -35,13 +38,16 @@ has-requires-5 c κs = search needs
 
 returns-3 : tie.Need-returns-3
 returns-3 c =
-    let s = c .before .before .before .before .before .before .before .before in
-    c .has5 .ensures ∙ sym (takes-is (edge (now (s .args .edges))) (edge (now (s .args .theirs))) (edge (now (s .args .base))) (s .args .a) (s .args .b) (sym (c .before .before .before .before .has .ensures) ∙ c .before .before .before .if1 .left) (sym (c .before .before .has4 .ensures) ∙ c .before .if3 .taken))
+    let at-if1 = c .before .before .before in
+    let at-has = at-if1 .before in
+    let s = at-has .before .before .before .before in
+    c .has5 .ensures ∙ sym (takes-is (edge (now (s .args .edges))) (edge (now (s .args .theirs))) (edge (now (s .args .base))) (s .args .a) (s .args .b) (sym (at-has .has .ensures) ∙ at-if1 .if1 .left) (sym (c .before .before .has4 .ensures) ∙ c .before .if3 .taken))
 
 returns-4 : tie.Need-returns-4
 returns-4 c =
-    let s = c .before .before .before .before .before .before .before in
-    sym (takes-is (edge (now (s .args .edges))) (edge (now (s .args .theirs))) (edge (now (s .args .base))) (s .args .a) (s .args .b) (sym (c .before .before .before .has .ensures) ∙ c .before .before .if1 .left) (sym (c .before .has4 .ensures) ∙ c .if3 .left))
+    let at-has = c .before .before .before in
+    let s = at-has .before .before .before .before in
+    sym (takes-is (edge (now (s .args .edges))) (edge (now (s .args .theirs))) (edge (now (s .args .base))) (s .args .a) (s .args .b) (sym (at-has .has .ensures) ∙ c .before .before .if1 .left) (sym (c .before .has4 .ensures) ∙ c .if3 .left))
 
 pub takes-spec : {M : Type 1} → statement M
 takes-spec =

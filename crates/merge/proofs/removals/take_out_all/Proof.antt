@@ -25,8 +25,9 @@ loop-holds c = (search needs, search needs, refl, refl, refl, pairs-none _ _)
 
 take-out-row-requires : tie.Need-take-out-row-requires Inv-loop μ-loop
 take-out-row-requires c κs =
-    let at = c .before .before .before .before .loop in
-    let s = c .before .before .before .before .before .before .before .before .before .before in (
+    let at-loop = c .before .before .before .before in
+    let s = at-loop .before .before .before .before .before .before in
+    let at = at-loop .loop in (
       omega (arith, at .inv .1, at .inv .3),
       aligned-kept (s .pre) (at .inv .2) (at .inv .3) (at .inv .4),
     )
@@ -39,15 +40,17 @@ loop-less c = omega arith
 
 loop-again : tie.Need-loop-again Inv-loop μ-loop
 loop-again c =
-    let at = c .before .before .before .before .before .before .before .before .before .before .before .loop in
-    let s = c .before .before .before .before .before .before .before .before .before .before .before .before .before .before .before .before .before in
-    let kept = c .before .before .before .before .before .before .take-out-row .kept in (
+    let at-take-out-row = c .before .before .before .before .before .before in
+    let at-loop = at-take-out-row .before .before .before .before .before in
+    let s = at-loop .before .before .before .before .before .before in
+    let at = at-loop .loop in
+    let kept = at-take-out-row .take-out-row .kept in (
       omega arith,
       at .inv .1,
       kept .0 ∙ at .inv .2,
       kept .1 .0 ∙ at .inv .3,
       kept .1 .1 .0 ∙ at .inv .4,
-      pairs-step (takenOut (edge (now (s .args .theirs))) (edge (now (s .args .base)))) _ (at .b) (at .inv .5) (c .before .before .before .before .before .before .take-out-row .ensures),
+      pairs-step (takenOut (edge (now (s .args .theirs))) (edge (now (s .args .base)))) _ (at .b) (at .inv .5) (at-take-out-row .take-out-row .ensures),
     )
 
 same-length : tie.Need-same-length Inv-loop μ-loop

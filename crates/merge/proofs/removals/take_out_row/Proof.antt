@@ -51,8 +51,9 @@ loop-holds c =
 
 take-out-requires : tie.Need-take-out-requires Inv-loop μ-loop
 take-out-requires c κs =
-    let at = c .before .before .before .before .loop in
-    let s = c .before .before .before .before .before .before .before .before .before .before .before .before .before in (
+    let at-loop = c .before .before .before .before in
+    let s = at-loop .before .before .before .before .before .before .before .before .before in
+    let at = at-loop .loop in (
       omega (arith, at .inv .2),
       omega (arith, at .inv .2),
       aligned-kept (s .pre .1) (at .inv .1) (at .inv .2) (at .inv .3),
@@ -71,9 +72,11 @@ loop-less c = omega (arith, c .next-changed2 .ensures .start)
 
 loop-again : tie.Need-loop-again Inv-loop μ-loop
 loop-again c =
-    let at = c .before .before .before .before .before .before .before .before .before .before .before .before .loop in
-    let s = c .before .before .before .before .before .before .before .before .before .before .before .before .before .before .before .before .before .before .before .before .before in
-    let call = c .before .before .before .before .before .before .before .take-out in
+    let at-take-out = c .before .before .before .before .before .before .before in
+    let at-loop = at-take-out .before .before .before .before .before in
+    let s = at-loop .before .before .before .before .before .before .before .before .before in
+    let at = at-loop .loop in
+    let call = at-take-out .take-out in
     let theirs = edge (now (s .args .theirs)) in
     let base = edge (now (s .args .base)) in (
       c .next-changed2 .ensures .stop,

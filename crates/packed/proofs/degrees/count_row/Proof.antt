@@ -22,12 +22,17 @@ abbrev μ-loop : tie.MeasureT-loop
 
 -- where the run ends, and b's own count there
 abbrev next : (c : tie.After-slice-known2 Inv-loop μ-loop) → ℕ
-next c = c .before .before .before .before .before .before .loop .at + c .before .before .before .before .run-length .result
+next c =
+    let at-run-length = c .before .before .before .before in
+    let at-loop = at-run-length .before .before in
+    at-loop .loop .at + at-run-length .run-length .result
 
 total : (c : tie.After-slice-known2 Inv-loop μ-loop) →
     let s = c .before .before .before .before .before .before .before .before .before .args in
     c .before .before .before .before .before .before .loop .own + c .before .before .count-run .result ≡ countTo (edge (now (s .edges)) (s .b)) (next c)
-total c = ap (λ x. x + c .before .before .count-run .result) (c .before .before .before .before .before .before .loop .inv .2) ∙ c .before .before .count-run .ensures .1
+total c =
+    let at-loop = c .before .before .before .before .before .before in
+    ap (λ x. x + c .before .before .count-run .result) (at-loop .loop .inv .2) ∙ c .before .before .count-run .ensures .1
 
 loop-holds : tie.Need-loop-holds Inv-loop μ-loop
 loop-holds c = (search needs, c .before .before .pre .2 ∙ sym (row-start _ _), sym (sumTo-none _))
@@ -43,14 +48,16 @@ add-end c = omega (arith, c .run-length .ensures)
 
 count-run-requires : tie.Need-count-run-requires Inv-loop μ-loop
 count-run-requires c κs =
-    let s = c .before .before .before .before .before .before in
+    let at-loop = c .before .before .before in
+    let s = at-loop .before .before .before in
     let r = c .before .run-length .ensures in
-    (s .pre .0, s .pre .1, omega (arith, r), omega (arith, r), omega (arith, r), c .before .before .before .loop .inv .1)
+    (s .pre .0, s .pre .1, omega (arith, r), omega (arith, r), omega (arith, r), at-loop .loop .inv .1)
 
 add-own : tie.Need-add-own Inv-loop μ-loop
 add-own c =
-    let s = c .before .before .before .before .before .before .before .before .before in
-    omega (arith, total c, countTo-le (edge (now (s .args .edges)) (s .args .b)) (next c), s .pre .0, c .before .before .before .before .run-length .ensures)
+    let at-run-length = c .before .before .before .before in
+    let s = at-run-length .before .before .before .before .before in
+    omega (arith, total c, countTo-le (edge (now (s .args .edges)) (s .args .b)) (next c), s .pre .0, at-run-length .run-length .ensures)
 
 loop-less : tie.Need-loop-less Inv-loop μ-loop
 loop-less c = omega (arith, c .before .before .before .before .run-length .ensures)

@@ -124,7 +124,8 @@ slice-write-counts c = omega (arith, counts-length (c .before), turn (c .before)
 
 add-own : tie.Need-add-own Inv-loop μ-loop
 add-own c =
-    let s = c .before .before .before .before .before .before .args in
+    let s = c .before .before .before .before .before .before in
+    let s = s .args in
     let at = c .before .before .loop in
     omega (arith, at .inv .1 .mine, at .inv .1 .stop, countTo-le (edge (now (s .edges)) (s .b)) (at .inv .0))
 

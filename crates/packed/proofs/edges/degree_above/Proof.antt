@@ -47,13 +47,15 @@ get-requires c κs =
 
 add-count : tie.Need-add-count Inv-loop μ-loop
 add-count c =
-    let s = c .before .before .before .before .before .before in
-    omega (arith, s .pre .1 .few, countTo-le (edge (s .args .edges .now) (s .args .p)) (c .before .before .before .loop .q))
+    let at-loop = c .before .before .before in
+    let s = at-loop .before .before .before in
+    omega (arith, s .pre .1 .few, countTo-le (edge (s .args .edges .now) (s .args .p)) (at-loop .loop .q))
 
 add-i-2 : tie.Need-add-i-2 Inv-loop μ-loop
 add-i-2 c =
-    let s = c .before .before .before .before .before .before in
-    let q = c .before .before .before .loop .q in
+    let at-loop = c .before .before .before in
+    let s = at-loop .before .before .before in
+    let q = at-loop .loop .q in
     omega (arith, s .pre .1 .few, pairs-few {n = q} (omega (arith, s .pre .1 .few)))
 
 add-q-2 : tie.Need-add-q-2 Inv-loop μ-loop
@@ -64,10 +66,11 @@ loop-less c = omega arith
 
 loop-again : tie.Need-loop-again Inv-loop μ-loop
 loop-again c =
-    let s = c .before .before .before .before .before .before in
+    let at-loop = c .before .before .before in
+    let s = at-loop .before .before .before in
     let es = s .args .edges .now in
-    let inv = c .before .before .before .loop .inv in
-    let q = c .before .before .before .loop .q in
+    let inv = at-loop .loop .inv in
+    let q = at-loop .loop .q in
     let more = count-more (edge es (s .args .p)) q in
     let e = edge-above es (s .args .p) q (inv .0) ∙ ap (bitAt es) (sym (inv .2)) ∙ sym (c .before .get .ensures) in (
       omega arith,

@@ -26,9 +26,10 @@ enum-known-item-3 c = search needs
 
 do-list-requires : tie.Need-do-list-requires
 do-list-requires c κs =
-    let r = c .before .before .before .before .before .before in
+    let at-item3 = c .before .before .before .before in
+    let r = at-item3 .before .before in
     let s = r .before .before .before .before .before in
-    list-small (now (s .args .script)) (s .args .at) (r .read .ensures .0) (sym (c .before .before .before .before .item3 .given .1))
+    list-small (now (s .args .script)) (s .args .at) (r .read .ensures .0) (sym (at-item3 .item3 .given .1))
 
 enum-told : tie.Need-enum-told
 enum-told c = search needs

@@ -35,7 +35,9 @@ loop-less : tie.Need-loop-less Inv-loop μ-loop
 loop-less c = omega arith
 
 loop-again : tie.Need-loop-again Inv-loop μ-loop
-loop-again c = (c .before .before .before .before .before .before .before .do-record .ensures .1, omega arith, omega arith, omega arith)
+loop-again c =
+    let at-do-record = c .before .before .before .before .before .before .before in
+    (at-do-record .do-record .ensures .1, omega arith, omega arith, omega arith)
 
 pub do-records-spec : {M : Type 1} → statement M
 do-records-spec =

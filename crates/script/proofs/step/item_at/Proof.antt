@@ -59,8 +59,9 @@ returns-3 c = item-remove _ _ (found (c .before .before)) (c .before .if2 .left)
 
 add-k : tie.Need-add-k
 add-k c =
-    let s = c .before .before .before .before .before .before .before .before .before in
-    omega (arith, c .before .before .before .before .field2 .ensures, field-small (now (s .args .script)) (s .args .at + 2) 8 (omega arith))
+    let at-field2 = c .before .before .before .before in
+    let s = at-field2 .before .before .before .before .before in
+    omega (arith, at-field2 .field2 .ensures, field-small (now (s .args .script)) (s .args .at + 2) 8 (omega arith))
 
 returns-4 : tie.Need-returns-4
 returns-4 c =
@@ -75,12 +76,18 @@ ends-requires c κs = let f = found (c .before .before .before) in (f .bits, f .
 
 returns-6 : tie.Need-returns-6
 returns-6 c =
-    item-end _ _ (found (c .before .before .before .before .before)) (c .before .before .before .before .if2 .left) (c .before .before .before .if3 .left) (c .before .before .if4 .left)
+    let at-if3 = c .before .before .before in
+    let at-if2 = at-if3 .before in
+    let here = at-if2 .before in
+    item-end _ _ (found here) (at-if2 .if2 .left) (at-if3 .if3 .left) (c .before .before .if4 .left)
     (sym (c .before .ends .ensures) ∙ c .if6 .taken)
 
 returns-7 : tie.Need-returns-7
 returns-7 c =
-    item-bad-end _ _ (found (c .before .before .before .before .before)) (c .before .before .before .before .if2 .left) (c .before .before .before .if3 .left) (c .before .before .if4 .left)
+    let at-if3 = c .before .before .before in
+    let at-if2 = at-if3 .before in
+    let here = at-if2 .before in
+    item-bad-end _ _ (found here) (at-if2 .if2 .left) (at-if3 .if3 .left) (c .before .before .if4 .left)
     (sym (c .before .ends .ensures) ∙ c .if6 .left)
 
 pub item-at-spec : {M : Type 1} → statement M

@@ -25,8 +25,9 @@ loop-holds c = (search needs, c .before .before .set-exact .ensures ∙ ap (λ m
 
 put-requires : tie.Need-put-requires Inv-loop μ-loop
 put-requires c κs =
+    let s = c .before .before .before .before .before .before .before .before in
     let at = c .before .before .loop in
-    omega (arith, ap length (at .inv .1), length-stale (λ p. true) (replicate (markBytes (c .before .before .before .before .before .before .before .before .args .n)) 0) (at .p), length-replicate {A = ℕ} (markBytes (c .before .before .before .before .before .before .before .before .args .n)) 0)
+    omega (arith, ap length (at .inv .1), length-stale (λ p. true) (replicate (markBytes (s .args .n)) 0) (at .p), length-replicate {A = ℕ} (markBytes (s .args .n)) 0)
 
 add-p : tie.Need-add-p Inv-loop μ-loop
 add-p c = omega arith
@@ -38,7 +39,9 @@ loop-again : tie.Need-loop-again Inv-loop μ-loop
 loop-again c = (omega arith, stale-step (λ p. true) _ (c .before .before .before .before .before .loop .p) (c .before .before .before .before .before .loop .inv .1) refl (c .before .before .put .ensures))
 
 same-length : tie.Need-same-length Inv-loop μ-loop
-same-length c = ap length (c .before .loop .inv .1) ∙ length-stale _ _ (c .before .loop .p) ∙ length-replicate {A = ℕ} _ 0 ∙ sym (c .before .before .before .before .before .before .before .pre)
+same-length c =
+    let s = c .before .before .before .before .before .before .before in
+    ap length (c .before .loop .inv .1) ∙ length-stale _ _ (c .before .loop .p) ∙ length-replicate {A = ℕ} _ 0 ∙ sym (s .pre)
 
 returns : tie.Need-returns Inv-loop μ-loop
 returns c =

@@ -26,7 +26,8 @@ same-length c = search needs
 
 returns : tie.Need-returns
 returns c =
-    let a = c .before .before .before .before .before .before .before .args in
+    let s = c .before .before .before .before .before .before .before in
+    let a = s .args in
     let s = c .before .before .shift-in in
     kept-law (a .kept) (now (a .entries)) (entry (a .node) (a .figure)) (omega arith) (a .k) (s .result) (s .last .0) (s .ensures .0) (cc)
 

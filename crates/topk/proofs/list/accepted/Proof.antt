@@ -13,8 +13,9 @@ zero-requires c κs = search needs
 
 run-requires : tie.Need-run-requires
 run-requires c κs =
-    let s = c .before .before .before .before .before .before .before .before .before .before .before .before .before in
-    (s .pre .0, s .pre .1, c .before .before .before .before .before .before .zero .ensures ∙ ap (λ (n : ℕ). replicate n 0) (s .pre .2), s .pre .3, s .pre .4)
+    let at-zero = c .before .before .before .before .before .before in
+    let s = at-zero .before .before .before .before .before .before .before in
+    (s .pre .0, s .pre .1, at-zero .zero .ensures ∙ ap (λ (n : ℕ). replicate n 0) (s .pre .2), s .pre .3, s .pre .4)
 
 zero-requires-2 : tie.Need-zero-requires-2
 zero-requires-2 c κs = search needs
@@ -33,8 +34,9 @@ same-length-4 c = search needs
 
 returns : tie.Need-returns
 returns c =
-    let s = c .before .before .before .before .before .before .before .before .before .before .before .before .before .before .before .before .before .before .before .before .before .before .before .before .before .before in
-    let d = c .before .before .before .before .before .before .before .before .before .before .before .before .run in
+    let at-run = c .before .before .before .before .before .before .before .before .before .before .before .before in
+    let s = at-run .before .before .before .before .before .before .before .before .before .before .before .before .before .before in
+    let d = at-run .run in
     let n : length (d .last .1 .1 .1 .0) ≡ length (now (s .args .figures)) = omega arith in (
       d .ensures,
       c .before .before .zero2 .ensures ∙ ap (λ (m : ℕ). replicate m 0) n,

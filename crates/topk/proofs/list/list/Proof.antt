@@ -13,24 +13,32 @@ list-refusal-requires : tie.Need-list-refusal-requires
 list-refusal-requires c κs = search needs
 
 returns : tie.Need-returns
-returns c = let s = c .before .before .before .before .before .before .before in list-refused (now (s .args .edges)) (now (s .args .figures)) (now (s .args .marks)) (now (s .args .entries)) (now (s .args .scratch)) (c .before .list-refusal .result) (c .before .list-refusal .ensures) (c .if1 .taken)
+returns c =
+    let s = c .before .before .before .before .before .before .before in
+    list-refused (now (s .args .edges)) (now (s .args .figures)) (now (s .args .marks)) (now (s .args .entries)) (now (s .args .scratch)) (c .before .list-refusal .result) (c .before .list-refusal .ensures) (c .if1 .taken)
 
 slice-relend-prefix-accepted : tie.Need-slice-relend-prefix-accepted
 slice-relend-prefix-accepted c =
-    let s = c .before .before .before .before .before .before .before .before .before .before in
-    let p = list-passed (now (s .args .edges)) (now (s .args .figures)) (now (s .args .marks)) (now (s .args .entries)) (now (s .args .scratch)) (c .before .before .before .before .list-refusal .ensures) (c .before .before .before .if1 .left) in
+    let at-if1 = c .before .before .before in
+    let at-list-refusal = at-if1 .before in
+    let s = at-list-refusal .before .before .before .before .before .before in
+    let p = list-passed (now (s .args .edges)) (now (s .args .figures)) (now (s .args .marks)) (now (s .args .entries)) (now (s .args .scratch)) (at-list-refusal .list-refusal .ensures) (at-if1 .if1 .left) in
     p .scratchFits
 
 slice-aggregate-accepted : tie.Need-slice-aggregate-accepted
 slice-aggregate-accepted c =
-    let s = c .before .before .before .before .before .before .before .before .before .before .before in
-    let p = list-passed (now (s .args .edges)) (now (s .args .figures)) (now (s .args .marks)) (now (s .args .entries)) (now (s .args .scratch)) (c .before .before .before .before .before .list-refusal .ensures) (c .before .before .before .before .if1 .left) in
+    let at-if1 = c .before .before .before .before in
+    let at-list-refusal = at-if1 .before in
+    let s = at-list-refusal .before .before .before .before .before .before in
+    let p = list-passed (now (s .args .edges)) (now (s .args .figures)) (now (s .args .marks)) (now (s .args .entries)) (now (s .args .scratch)) (at-list-refusal .list-refusal .ensures) (at-if1 .if1 .left) in
     sym (length-take-le (length (now (s .args .figures))) (now (s .args .scratch)) (p .scratchFits))
 
 accepted-requires : tie.Need-accepted-requires
 accepted-requires c κs =
-    let s = c .before .before .before .before .before .before .before .before .before .before .before in
-    let p = list-passed (now (s .args .edges)) (now (s .args .figures)) (now (s .args .marks)) (now (s .args .entries)) (now (s .args .scratch)) (c .before .before .before .before .before .list-refusal .ensures) (c .before .before .before .before .if1 .left) in
+    let at-if1 = c .before .before .before .before in
+    let at-list-refusal = at-if1 .before in
+    let s = at-list-refusal .before .before .before .before .before .before in
+    let p = list-passed (now (s .args .edges)) (now (s .args .figures)) (now (s .args .marks)) (now (s .args .entries)) (now (s .args .scratch)) (at-list-refusal .list-refusal .ensures) (at-if1 .if1 .left) in
     (p .scorable, omega (arith, p .fitted .marksFit), length-take-le (length (now (s .args .figures))) (now (s .args .scratch)) (p .scratchFits), omega arith, p .some)
 
 same-length : tie.Need-same-length
@@ -47,10 +55,13 @@ same-length-4 c = search needs
 
 returns-2 : tie.Need-returns-2
 returns-2 c =
-    let s = c .before .before .before .before .before .before .before .before .before .before .before .before .before .before .before .before .before .before .before .before in
-    let a = c .before .before .before .before .before .before .before .before .accepted in
+    let at-accepted = c .before .before .before .before .before .before .before .before in
+    let at-if1 = at-accepted .before .before .before .before .before in
+    let at-list-refusal = at-if1 .before in
+    let s = at-list-refusal .before .before .before .before .before .before in
+    let a = at-accepted .accepted in
     list-accepted (now (s .args .edges)) (now (s .args .figures)) (now (s .args .marks)) (now (s .args .entries)) (now (s .args .scratch)) (a .last .1 .0) (a .last .1 .1 .0) (a .last .1 .1 .1 .0) (a .last .1 .1 .1 .1 .0) (a .result)
-    (c .before .before .before .before .before .before .before .before .before .before .before .before .before .before .list-refusal .ensures) (c .before .before .before .before .before .before .before .before .before .before .before .before .before .if1 .left) (a .ensures .0) (a .ensures .1)
+    (at-list-refusal .list-refusal .ensures) (at-if1 .if1 .left) (a .ensures .0) (a .ensures .1)
 
 pub list-spec : {M : Type 1} → statement M
 list-spec =

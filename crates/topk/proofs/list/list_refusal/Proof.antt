@@ -25,12 +25,20 @@ any-over-requires c κs = sized-room ((fitted-by (c .before .before .before .bef
 
 returns-5 : tie.Need-returns-5
 returns-5 c =
-    sym (fitted-append _ _ _ _ (fitted-by (c .before .before .before .before .before .before .state-refusal .ensures) (c .before .before .before .before .before .if1 .left)) ∙ passed-scratch _ _ _ (c .before .before .before .before .if2 .left) ∙ passed-listed _ _ _ (c .before .before .before .if3 .left) (c .before .before .if4 .left)
+    let at-if3 = c .before .before .before in
+    let at-if2 = at-if3 .before in
+    let at-if1 = at-if2 .before in
+    let at-state-refusal = at-if1 .before in
+    sym (fitted-append _ _ _ _ (fitted-by (at-state-refusal .state-refusal .ensures) (at-if1 .if1 .left)) ∙ passed-scratch _ _ _ (at-if2 .if2 .left) ∙ passed-listed _ _ _ (at-if3 .if3 .left) (c .before .before .if4 .left)
     ∙ refused-before _ _ _ _ (sym (c .before .any-over .ensures) ∙ c .if5 .taken))
 
 returns-6 : tie.Need-returns-6
 returns-6 c =
-    sym (fitted-append _ _ _ _ (fitted-by (c .before .before .before .before .before .before .state-refusal .ensures) (c .before .before .before .before .before .if1 .left)) ∙ passed-scratch _ _ _ (c .before .before .before .before .if2 .left) ∙ passed-listed _ _ _ (c .before .before .before .if3 .left) (c .before .before .if4 .left)
+    let at-if3 = c .before .before .before in
+    let at-if2 = at-if3 .before in
+    let at-if1 = at-if2 .before in
+    let at-state-refusal = at-if1 .before in
+    sym (fitted-append _ _ _ _ (fitted-by (at-state-refusal .state-refusal .ensures) (at-if1 .if1 .left)) ∙ passed-scratch _ _ _ (at-if2 .if2 .left) ∙ passed-listed _ _ _ (at-if3 .if3 .left) (c .before .before .if4 .left)
     ∙ passed-before _ _ _ _ (sym (c .before .any-over .ensures) ∙ c .if5 .left) ∙ refusal-none)
 
 pub list-refusal-spec : {M : Type 1} → statement M

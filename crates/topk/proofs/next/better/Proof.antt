@@ -38,13 +38,15 @@ ranks-before-requires c κs = search needs
 
 returns-3 : tie.Need-returns-3
 returns-3 c =
-    let s = c .before .before .before .before .before .before .before .before .before in
-    (omega arith, better-moves (now (s .args .figures)) (now (s .args .taken)) (length (now (s .args .figures))) (s .args .best) (s .args .i) (c .before .before .before .before .before .if1 .left) (s .pre .0) (omega arith) (sym (c .before .ranks-before .ensures) ∙ c .if3 .taken))
+    let at-if1 = c .before .before .before .before .before in
+    let s = at-if1 .before .before .before .before in
+    (omega arith, better-moves (now (s .args .figures)) (now (s .args .taken)) (length (now (s .args .figures))) (s .args .best) (s .args .i) (at-if1 .if1 .left) (s .pre .0) (omega arith) (sym (c .before .ranks-before .ensures) ∙ c .if3 .taken))
 
 returns-4 : tie.Need-returns-4
 returns-4 c =
-    let s = c .before .before .before .before .before .before .before .before .before in
-    (s .pre .2, better-stays (now (s .args .figures)) (now (s .args .taken)) (length (now (s .args .figures))) (s .args .best) (s .args .i) (c .before .before .before .before .before .if1 .left) (omega arith) (sym (c .before .ranks-before .ensures) ∙ c .if3 .left))
+    let at-if1 = c .before .before .before .before .before in
+    let s = at-if1 .before .before .before .before in
+    (s .pre .2, better-stays (now (s .args .figures)) (now (s .args .taken)) (length (now (s .args .figures))) (s .args .best) (s .args .i) (at-if1 .if1 .left) (omega arith) (sym (c .before .ranks-before .ensures) ∙ c .if3 .left))
 
 pub better-spec : {M : Type 1} → statement M
 better-spec =

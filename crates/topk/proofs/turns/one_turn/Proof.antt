@@ -19,7 +19,8 @@ same-length-2 c = search needs
 
 returns : tie.Need-returns
 returns c =
-    let a = c .before .before .before .before .before .before .before .before .before .args in
+    let s = c .before .before .before .before .before .before .before .before .before in
+    let a = s .args in
     let n = c .before .next-node in
     turn-none (truthOf (now (a .edges)) (now (a .figures))) (a .k) (now (a .figures)) (now (a .marks)) (now (a .taken)) (now (a .entries)) (a .kept) (a .recomputed) (n .result) (n .ensures .1) (c .if1 .taken) (omega arith)
 
@@ -43,15 +44,19 @@ same-length-5 c = search needs
 
 returns-2 : tie.Need-returns-2
 returns-2 c =
-    let a = c .before .before .before .before .before .before .before .before .before .before .before .before .before .args in
-    let n = c .before .before .before .before .before .next-node in
-    turn-stop (truthOf (now (a .edges)) (now (a .figures))) (a .k) (now (a .figures)) (now (a .marks)) (now (a .taken)) (now (a .entries)) (a .kept) (a .recomputed) (n .result) (n .ensures .1) (c .before .before .before .before .if1 .left)
+    let at-if1 = c .before .before .before .before in
+    let at-next-node = at-if1 .before in
+    let s = at-next-node .before .before .before .before .before .before .before .before in
+    let a = s .args in
+    let n = at-next-node .next-node in
+    turn-stop (truthOf (now (a .edges)) (now (a .figures))) (a .k) (now (a .figures)) (now (a .marks)) (now (a .taken)) (now (a .entries)) (a .kept) (a .recomputed) (n .result) (n .ensures .1) (at-if1 .if1 .left)
     (c .before .stops-at .ensures) (c .if2 .taken) (omega arith)
 
 take-node-requires : tie.Need-take-node-requires
 take-node-requires c κs =
-    let s = c .before .before .before .before .before .before .before .before .before .before .before .before .before .before .before .before .before in
-    (c .before .before .before .before .before .before .before .before .if1 .left, s .pre .0, s .pre .1)
+    let at-if1 = c .before .before .before .before .before .before .before .before in
+    let s = at-if1 .before .before .before .before .before .before .before .before .before in
+    (at-if1 .if1 .left, s .pre .0, s .pre .1)
 
 same-length-6 : tie.Need-same-length-6
 same-length-6 c = search needs
@@ -67,11 +72,17 @@ same-length-9 c = search needs
 
 returns-3 : tie.Need-returns-3
 returns-3 c =
-    let a = c .before .before .before .before .before .before .before .before .before .before .before .before .before .before .before .before .before .before .before .before .before .before .before .before .before .before .args in
-    let n = c .before .before .before .before .before .before .before .before .before .before .before .before .before .before .before .before .before .before .next-node in
-    let t = c .before .before .before .before .before .before .before .before .take-node in
-    let q = turn-take (truthOf (now (a .edges)) (now (a .figures))) (a .k) (now (a .figures)) (now (a .marks)) (now (a .taken)) (now (a .entries)) (a .kept) (a .recomputed) (n .result) (n .ensures .1) (c .before .before .before .before .before .before .before .before .before .before .before .before .before .before .before .before .before .if1 .left)
-    (c .before .before .before .before .before .before .before .before .before .before .before .before .before .before .stops-at .ensures) (c .before .before .before .before .before .before .before .before .before .before .before .before .before .if2 .left) (t .ensures .1) in
+    let at-take-node = c .before .before .before .before .before .before .before .before in
+    let at-if2 = at-take-node .before .before .before .before .before in
+    let at-stops-at = at-if2 .before in
+    let at-if1 = at-stops-at .before .before .before in
+    let at-next-node = at-if1 .before in
+    let s = at-next-node .before .before .before .before .before .before .before .before in
+    let a = s .args in
+    let n = at-next-node .next-node in
+    let t = at-take-node .take-node in
+    let q = turn-take (truthOf (now (a .edges)) (now (a .figures))) (a .k) (now (a .figures)) (now (a .marks)) (now (a .taken)) (now (a .entries)) (a .kept) (a .recomputed) (n .result) (n .ensures .1) (at-if1 .if1 .left)
+    (at-stops-at .stops-at .ensures) (at-if2 .if2 .left) (t .ensures .1) in
     (t .ensures .0 ∙ q .0, q .1)
 
 pub one-turn-spec : {M : Type 1} → statement M

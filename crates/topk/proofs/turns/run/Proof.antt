@@ -28,8 +28,9 @@ loop-holds c = let s = c .before .before .before .before .before in (omega arith
 
 one-turn-requires : tie.Need-one-turn-requires Inv-loop μ-loop
 one-turn-requires c κs =
-    let s = c .before .before .before .before .before .before .before .before .before .before .before in
-    let l = c .before .before .before .before .before .loop in
+    let at-loop = c .before .before .before .before .before in
+    let s = at-loop .before .before .before .before .before .before in
+    let l = at-loop .loop in
     let n = counts (truthOf (now (s .args .edges)) (now (s .args .figures))) (s .args .k) (now (s .args .figures)) (now (s .args .marks)) (l .i) in
     let z : length (now (s .args .taken)) ≡ length (now (s .args .figures)) = ap length (s .pre .2) ∙ length-replicate (length (now (s .args .figures))) 0 in (
       subst (λ (m : ℕ). Scorable m (now (s .args .edges))) (sym (l .inv .1)) (s .pre .0),
@@ -57,9 +58,12 @@ same-length-4 c = omega arith
 
 returns : tie.Need-returns Inv-loop μ-loop
 returns c =
-    let a = c .before .before .before .before .before .before .before .before .before .before .before .before .before .before .before .before .before .before .before .before .before .args in
-    let l = c .before .before .before .before .before .before .before .before .before .before .before .before .before .before .before .loop in
-    let t = c .before .before .before .before .before .before .before .before .before .one-turn in
+    let at-one-turn = c .before .before .before .before .before .before .before .before .before in
+    let at-loop = at-one-turn .before .before .before .before .before .before in
+    let s = at-loop .before .before .before .before .before .before in
+    let a = s .args in
+    let l = at-loop .loop in
+    let t = at-one-turn .one-turn in
     run-stops (now (a .edges)) (a .k) (now (a .figures)) (now (a .marks)) (now (a .entries))
     (l .i) (l .inv .0) (l .figures) (l .marks) (l .taken) (l .entries) (l .kept) (l .recomputed) (l .inv .1) (l .inv .5)
     (t .last .1 .0) (t .last .1 .1 .0) (t .last .1 .1 .1 .0) (t .last .1 .1 .1 .1 .0) (t .result .kept) (t .result .recomputed) (t .ensures .1)
@@ -100,7 +104,8 @@ same-length-8 c = omega arith
 
 returns-2 : tie.Need-returns-2 Inv-loop μ-loop
 returns-2 c =
-    let a = c .before .before .before .before .before .before .before .args in
+    let s = c .before .before .before .before .before .before .before in
+    let a = s .args in
     let l = c .before .loop in
     run-ends (now (a .edges)) (a .k) (now (a .figures)) (now (a .marks)) (now (a .entries)) (l .i) (l .inv .0) (omega arith) (l .inv .5)
 

@@ -18,7 +18,9 @@ slice-write-figures : tie.Need-slice-write-figures
 slice-write-figures c = search needs
 
 put-requires : tie.Need-put-requires
-put-requires c κs = let s = c .before .before .before .before .before .before .before .before .before in omega (arith, s .pre .2 .marksFit, s .pre .0)
+put-requires c κs =
+    let s = c .before .before .before .before .before .before .before .before .before in
+    omega (arith, s .pre .2 .marksFit, s .pre .0)
 
 slice-write-taken : tie.Need-slice-write-taken
 slice-write-taken c = search needs
@@ -40,9 +42,12 @@ same-length-4 c = search needs
 
 returns : tie.Need-returns
 returns c =
-    let a = c .before .before .before .before .before .before .before .before .before .before .before .before .before .before .before .before .args in
-    let w = c .before .before .before .before .before .before .before .before .worth-of in
-    (refl, took-holds (truthOf (now (a .edges)) (now (a .figures))) (a .k) (now (a .figures)) (now (a .marks)) (now (a .taken)) (now (a .entries)) (a .kept) (a .recomputed) (a .p) (w .ensures .0) (c .before .before .before .before .before .before .put .ensures) (c .before .before .insert .ensures) (w .ensures .1))
+    let at-put = c .before .before .before .before .before .before in
+    let at-worth-of = at-put .before .before in
+    let s = at-worth-of .before .before .before .before .before .before .before .before in
+    let a = s .args in
+    let w = at-worth-of .worth-of in
+    (refl, took-holds (truthOf (now (a .edges)) (now (a .figures))) (a .k) (now (a .figures)) (now (a .marks)) (now (a .taken)) (now (a .entries)) (a .kept) (a .recomputed) (a .p) (w .ensures .0) (at-put .put .ensures) (c .before .before .insert .ensures) (w .ensures .1))
 
 pub take-node-spec : {M : Type 1} → statement M
 take-node-spec =
