@@ -56,10 +56,10 @@ module _ {s : State} {a b : ℕ} {nodes : List ℕ} {count : ℕ} (e : Editable 
   pub mark-ready : (count ≤ maxTouched) × ((i : ℕ) → i < count → (getD nodes i 0 < maxNodes) × (markBytes (getD nodes i 0 + 1) ≤ length (s .marks)))
   mark-ready = (t .few, λ i h. (omega (arith, t .below i h, e .room .few), omega (arith, t .below i h, e .marked)))
 
-  pub bound-ready : {g : Graph} {degrees : List ℕ} {k : ℕ} → k ≤ count → Degrees g (size s) nodes degrees k
-      → (k ≤ maxTouched) × ((i : ℕ) → i < k → (getD nodes i 0 < size s) × (getD degrees i 0 ≤ maxNodes))
-  bound-ready {g} l d =
-      (d .few, λ i h. (t .below i (omega arith), omega (arith, d .each i h, degree-is g (size s) (getD nodes i 0), countTo-le (g (getD nodes i 0)) (size s), e .room .few)))
+  pub bound-ready : {g : Graph} {degrees : List ℕ} {j k : ℕ} → j ≤ k → k ≤ count → Degrees g (size s) nodes degrees k
+      → (j ≤ maxTouched) × ((i : ℕ) → i < j → (getD nodes i 0 < size s) × (getD degrees i 0 ≤ maxNodes))
+  bound-ready {g} l m d =
+      (omega (arith, d .few), λ i h. (t .below i (omega arith), omega (arith, d .each i (omega arith), degree-is g (size s) (getD nodes i 0), countTo-le (g (getD nodes i 0)) (size s), e .room .few)))
 
   module _ (bytes : Bytes (s .marks)) {marks : List ℕ} (m : marks ≡ staleEach nodes (s .marks) count) where
     marks-are : marks ≡ staleTo (touched (graph s) a b) (s .marks) (size s)

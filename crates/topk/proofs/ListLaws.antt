@@ -45,6 +45,7 @@ module _ (edges F M E C : List ℕ) where
     pub fitted : Fitted n (length edges) (length M)
     pub scratchFits : n ≤ length C
     pub some : 0 < wanted E
+    pub within : wanted E ≤ n
     pub scorable : Scorable n edges
 
   few : tooMany (edge edges) n everyone ≡ false → (p : ℕ) → p < n → degree (edge edges) n p ≤ limit
@@ -63,7 +64,7 @@ module _ (edges F M E C : List ℕ) where
         | yes m ↦ absurd (omega (arith, passed-scratch sizes n (length C) (omega arith), refused-all-listed crowded n (wanted E) m))
         | no m ↦ elim (test (tooMany (edge edges) n everyone)) [
           | inl t ↦ absurd (omega (arith, passed-scratch sizes n (length C) (omega arith), passed-listed crowded n (wanted E) z (omega arith), refused-before [] (edge edges) n everyone t))
-          | inr t ↦ record { fitted = f; scratchFits = omega arith; some = omega arith; scorable = record { room = sized-room (f .sizes); few = few t } }
+          | inr t ↦ record { fitted = f; scratchFits = omega arith; some = omega arith; within = omega arith; scorable = record { room = sized-room (f .sizes); few = few t } }
         ]
       ]
     ]

@@ -1,6 +1,7 @@
 -- `edits::edit::apply` meets its contract. Assumes nothing.
 use mathlib.Core.Path.{ap, sym, _∙_, _≡_}
 use Prim.Native.Nat.{_≤_}
+use native.Mathlib.Nat.{le-refl}
 use native.Mathlib.Omega.{arith}
 use borrow.Author.Needs.{needs}
 use Rattle.ego.proofs.FoundLaws.{degree-is}
@@ -57,7 +58,7 @@ bound-each-requires c κs =
     let here = at-degrees-of .before .before .before .before .before .before .before in
     let at-touched-of = here .before .before in
     let s = at-touched-of .before .before .before .before .before in
-    bound-ready (s .pre) (at-touched-of .touched-of .ensures .0) (within here .1) (at-degrees-of .degrees-of .ensures)
+    bound-ready (s .pre) (at-touched-of .touched-of .ensures .0) (le-refl _) (within here .1) (at-degrees-of .degrees-of .ensures)
 
 same-length : tie.Need-same-length
 same-length c = search needs

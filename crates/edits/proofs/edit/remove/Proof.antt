@@ -26,13 +26,19 @@ abbrev given : tie.Start → State
 given c = state (now (c .args .edges)) (now (c .args .figures)) (now (c .args .marks))
 
 -- lengths that are accepted, and then the pair
-fits : (c : tie.Else1) → Fitted (length (now (c .before .before .before .before .before .args .figures))) (length (now (c .before .before .before .before .before .args .edges))) (length (now (c .before .before .before .before .before .args .marks)))
+abbrev start1 : tie.Else1 → tie.Start
+start1 c = c .before .before .before .before .before
+
+abbrev start2 : tie.Else2 → tie.Start
+start2 c = start1 (c .before .before .before)
+
+fits : (c : tie.Else1) → Fitted (length (now (start1 c .args .figures))) (length (now (start1 c .args .edges))) (length (now (start1 c .args .marks)))
 fits c = fitted-by (c .before .state-refusal .ensures) (c .if1 .left)
 
-pair : (c : tie.Else2) → Pair (edge (now (c .before .before .before .before .before .before .before .before .args .edges))) (length (now (c .before .before .before .before .before .before .before .before .args .figures))) (c .before .before .before .before .before .before .before .before .args .a) (c .before .before .before .before .before .before .before .before .args .b) true
+pair : (c : tie.Else2) → Pair (edge (now (start2 c .args .edges))) (length (now (start2 c .args .figures))) (start2 c .args .a) (start2 c .args .b) true
 pair c = present-by (c .before .remove-refusal .ensures) (c .if2 .left)
 
-room : (c : tie.Else2) → Editable (given (c .before .before .before .before .before .before .before .before)) (c .before .before .before .before .before .before .before .before .args .a) (c .before .before .before .before .before .before .before .before .args .b)
+room : (c : tie.Else2) → Editable (given (start2 c)) (start2 c .args .a) (start2 c .args .b)
 room c = editable (fits (c .before .before .before)) (pair c .nodes)
 
 state-refusal-requires : tie.Need-state-refusal-requires
@@ -111,7 +117,7 @@ bound-each-requires c κs =
     let paired = at-touched-of .before .before in
     let e = room paired in
     let t = at-touched-of .touched-of .ensures .0 in
-    bound-ready e t (le-refl _) (lost-at (e .room) t (at-degrees-of .degrees-of .ensures) (pair paired) (at-link .link .ensures) (c .lost .ensures))
+    bound-ready e t (omega (arith, t .two)) (le-refl _) (lost-at (e .room) t (at-degrees-of .degrees-of .ensures) (pair paired) (at-link .link .ensures) (c .lost .ensures))
 
 same-length-3 : tie.Need-same-length-3
 same-length-3 c = search needs

@@ -3,9 +3,8 @@ use mathlib.Core.Path.{sym}
 use native.Mathlib.Omega.{arith}
 use borrow.Author.Needs.{needs}
 use denote.Ref.{now}
-use lib.ListN.{length}
 use lib.Seq.{length-take-le}
-use Rattle.topk.proofs.ListLaws.{list-accepted, list-passed, list-refused}
+use Rattle.topk.proofs.ListLaws.{list-accepted, list-passed, list-refused, Passed}
 use Rattle.topk.proofs.list.list.Statement.{statement}
 use Rattle.topk.proofs.list.list.Tie as tie
 
@@ -17,29 +16,29 @@ returns c =
     let s = c .before .before .before .before .before .before .before in
     list-refused (now (s .args .edges)) (now (s .args .figures)) (now (s .args .marks)) (now (s .args .entries)) (now (s .args .scratch)) (c .before .list-refusal .result) (c .before .list-refusal .ensures) (c .if1 .taken)
 
+-- a list that is not refused
+abbrev start : tie.Else1 → tie.Start
+start c = c .before .before .before .before .before .before .before
+
+passed : (c : tie.Else1) → Passed (now (start c .args .edges)) (now (start c .args .figures)) (now (start c .args .marks)) (now (start c .args .entries)) (now (start c .args .scratch))
+passed c =
+    let s = start c in
+    list-passed (now (s .args .edges)) (now (s .args .figures)) (now (s .args .marks)) (now (s .args .entries)) (now (s .args .scratch)) (c .before .list-refusal .ensures) (c .if1 .left)
+
 slice-relend-prefix-accepted : tie.Need-slice-relend-prefix-accepted
 slice-relend-prefix-accepted c =
-    let at-if1 = c .before .before .before in
-    let at-list-refusal = at-if1 .before in
-    let s = at-list-refusal .before .before .before .before .before .before in
-    let p = list-passed (now (s .args .edges)) (now (s .args .figures)) (now (s .args .marks)) (now (s .args .entries)) (now (s .args .scratch)) (at-list-refusal .list-refusal .ensures) (at-if1 .if1 .left) in
-    p .scratchFits
+    let p = passed (c .before .before .before) in
+    omega (arith, p .scratchFits, p .within)
 
 slice-aggregate-accepted : tie.Need-slice-aggregate-accepted
 slice-aggregate-accepted c =
-    let at-if1 = c .before .before .before .before in
-    let at-list-refusal = at-if1 .before in
-    let s = at-list-refusal .before .before .before .before .before .before in
-    let p = list-passed (now (s .args .edges)) (now (s .args .figures)) (now (s .args .marks)) (now (s .args .entries)) (now (s .args .scratch)) (at-list-refusal .list-refusal .ensures) (at-if1 .if1 .left) in
-    sym (length-take-le (length (now (s .args .figures))) (now (s .args .scratch)) (p .scratchFits))
+    let p = passed (c .before .before .before .before) in
+    sym (length-take-le _ _ (omega (arith, p .scratchFits, p .within)))
 
 accepted-requires : tie.Need-accepted-requires
 accepted-requires c κs =
-    let at-if1 = c .before .before .before .before in
-    let at-list-refusal = at-if1 .before in
-    let s = at-list-refusal .before .before .before .before .before .before in
-    let p = list-passed (now (s .args .edges)) (now (s .args .figures)) (now (s .args .marks)) (now (s .args .entries)) (now (s .args .scratch)) (at-list-refusal .list-refusal .ensures) (at-if1 .if1 .left) in
-    (p .scorable, omega (arith, p .fitted .marksFit), length-take-le (length (now (s .args .figures))) (now (s .args .scratch)) (p .scratchFits), omega arith, p .some)
+    let p = passed (c .before .before .before .before) in
+    (p .scorable, omega (arith, p .fitted .marksFit), length-take-le _ _ (p .scratchFits), omega arith, p .some)
 
 same-length : tie.Need-same-length
 same-length c = search needs
