@@ -1,8 +1,8 @@
 -- The digits of a number: what the masks of the code compute, and the laws of `digit` and `withDigit`.
 -- Assumes nothing.
-use mathlib.Core.Path.{_≡_, refl, sym, ap, ap₂, _∙_, subst}
-use mathlib.Core.Logic.{_≢_, _⊎_, inl, inr, ⊎-elim}
-use Prim.Native.Nat.{ℕ, zero, suc, _+_, _-_, _*_, _/_, _%_, _^_, _≤_, _<_, min, suc-le-suc}
+use mathlib.Core.Path.{_≡_, sym, ap, ap₂, _∙_, subst}
+use mathlib.Core.Logic.{_≢_}
+use Prim.Native.Nat.{ℕ, zero, suc, _+_, _-_, _*_, _/_, _%_, _^_, _<_, min, suc-le-suc}
 use native.Mathlib.Nat.{add-mul, div-add-mod', mod-lt, pow-suc, zero-lt-suc}
 use native.Mathlib.Decide.{decLt}
 use native.Mathlib.Numerals.{one-add}
@@ -11,7 +11,7 @@ use lib.Arith.{lt-one, digits-lt}
 use lib.Bits.{bitAnd, bitOr, and-high, and-step, or-add-and}
 use lib.Dec.{lit<}
 use lib.Pow.{pow-pos, pow-add, split, high, low, field, mod-mod-pow, shr-shr, shr-lt, shl-shr}
-use Rattle.arith.specs.Digits.{digit, bitOf, withDigit}
+use Rattle.arith.specs.Digits.{digit, withDigit}
 
 pub digit-two : (b k : ℕ) → digit b k < 2
 unfolding digit

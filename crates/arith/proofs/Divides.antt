@@ -1,9 +1,9 @@
 -- Least common multiples, from a certificate that the checker computes. Assumes nothing.
-use mathlib.Core.Path.{_≡_, refl, sym, ap, subst, _∙_}
-use mathlib.Core.Bool.{Bool, true, false, _&&_}
+use mathlib.Core.Path.{_≡_, ap, subst, _∙_}
+use mathlib.Core.Bool.{Bool, true, _&&_}
 use mathlib.Core.List.{List, [], _∷_}
-use Prim.Native.Nat.{ℕ, zero, suc, _+_, _-_, _*_, _/_, _%_, _≤_, _<_, _∣_}
-use native.Mathlib.Nat.{mul-comm, mul-assoc, mul-sub, add-mul, one-mul, mul-mul-mul-comm, one-dvd, dvd-mul-right, dvd-of-mod-eq-zero, div-mul-cancel}
+use Prim.Native.Nat.{ℕ, zero, suc, _+_, _-_, _*_, _/_, _%_, _∣_}
+use native.Mathlib.Nat.{mul-comm, mul-sub, add-mul, one-mul, mul-mul-mul-comm, one-dvd, dvd-mul-right, dvd-of-mod-eq-zero, div-mul-cancel}
 use native.Mathlib.Omega.{arith}
 use borrow.Author.Tests.{eqb-true, leb-true, ltb-true}
 use lib.Dec.{eqb, leb, ltb}

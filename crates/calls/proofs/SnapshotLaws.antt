@@ -1,5 +1,5 @@
 -- A snapshot's refusals and its parts. Assumes nothing.
-use mathlib.Core.Bool.{_&&_, Bool, false, true}
+use mathlib.Core.Bool.{_&&_, false, true}
 use mathlib.Core.List.{_++_, [], List, _∷_}
 use mathlib.Core.Path.{ap, refl, subst, sym, _∙_, _≡_}
 use Prim.Native.Nat.{_%_, _*_, _+_, _-_, _/_, _<_, _^_, suc, zero, ℕ, _≤_}
@@ -7,22 +7,22 @@ use native.Mathlib.Decide.{decLt}
 use native.Mathlib.Nat.{lt-of-le-of-lt, mod-eq-of-lt, mul-le-mul}
 use native.Mathlib.Omega.{arith}
 use borrow.Author.Tests.{eq-eqb, eqb-true, le-leb, le-ltb, lt-leb, lt-ltb, ne-eqb, not-false}
-use lib.Dec.{eqb, leb, ltb}
+use lib.Dec.{eqb, ltb}
 use lib.ListN.{drop, getD, length, length-drop, length-replicate, replicate, take}
 use lib.Seq.{ext-getD, getD-drop, take-length}
-use Rattle.arith.proofs.Sums.{anyTo-never, fill-table, getD-fillTo, getD-tabulate, length-tabulate, tabulate-is}
+use Rattle.arith.proofs.Sums.{anyTo-here, anyTo-never, fill-table, getD-fillTo, getD-tabulate, length-tabulate, tabulate-is}
 use Rattle.arith.proofs.Tests.{or-false-both}
 use Rattle.arith.proofs.Words.{pack-is, trim-high, trim-le, trim-low}
-use Rattle.arith.specs.Sums.{anyTo, fillTo, tabulate}
+use Rattle.arith.specs.Sums.{fillTo, tabulate}
 use Rattle.packed.proofs.BitLaws.{byte-bit}
-use Rattle.packed.specs.Bits.{bitAt, Bytes}
+use Rattle.packed.specs.Bits.{bitAt, Bytes, FirstFrom}
 use Rattle.packed.specs.Edges.{edge}
 use Rattle.packed.specs.Pairs.{maxNodes, pairCount}
 use Rattle.calls.proofs.AcceptLaws.{passes}
 use Rattle.state.proofs.RefusalLaws.{append-refused, Fitted, fitted-append, passed-after, passed-before, passed-length, refusal-none, refused-after, refused-before, refused-length}
 use Rattle.state.specs.Outcome.{lengths, stateLengths}
 use Rattle.state.specs.Refusal.{badSnapshot, Condition, crowdedAfter, everyone, otherCount, refusal, snapshotEdges, snapshotNodes, spareSet, tooMany}
-use Rattle.state.specs.Sizes.{edgeBytes, maxSnapshot, snapshotBytes}
+use Rattle.state.specs.Sizes.{edgeBytes, maxEdgeBytes, maxSnapshot, snapshotBytes}
 use Rattle.calls.specs.Snapshot.{formConditions, loadConditions, snapshotByte, snapshotOf, writeCall, writeConditions, written}
 use Rattle.state.specs.State.{graph, size, State}
 
@@ -45,11 +45,17 @@ module _ (cs : List Condition) (snapshot : List ℕ) where
     passed-snapshot e = rw (ne-eqb (length snapshot) 0 some, eq-eqb (length snapshot) (snapshotBytes (snapshotNodes snapshot)) long, e)
 
 -- the loop over the spare bits starts past the pairs
-pub spare-start : (n : ℕ) (edges : List ℕ) → anyTo (λ i. leb (pairCount n) i && bitAt edges i) (pairCount n) ≡ false
-spare-start n edges = anyTo-never _ (pairCount n) (λ i h. rw (lt-leb (pairCount n) i h))
-
-pub spare-here : (n : ℕ) (edges : List ℕ) (i : ℕ) {t : Bool} → pairCount n ≤ i → bitAt edges i ≡ t → leb (pairCount n) i && bitAt edges i ≡ t
-spare-here n edges i h e = rw (le-leb (pairCount n) i h) e
+-- the first bit that is set past the pairs, where there is one
+pub spare-found : (n : ℕ) (edges : List ℕ) {start end r : ℕ} → start ≡ pairCount n → end ≡ 8 * edgeBytes n → FirstFrom (bitAt edges) start end r
+    → ltb r end ≡ spareSet n edges
+unfolding spareSet
+spare-found n edges {start} {end} {r} e l f = elim (decLt r end) [
+  | yes h ↦ lt-ltb r end h ∙ sym (anyTo-here _ _ r (omega arith) (rw (le-leb (pairCount n) r (omega (arith, f .start))) (f .some h)))
+  | no h ↦ le-ltb r end (omega arith) ∙ sym (anyTo-never _ _ (λ i b. elim (decLt i (pairCount n)) [
+    | yes k ↦ rw (lt-leb (pairCount n) i k)
+    | no k ↦ rw (le-leb (pairCount n) i (omega arith)) (f .none i (omega arith) (omega arith))
+  ]))
+]
 
 -- copied edges
 pub copied : (snapshot edges₀ : List ℕ) {edges : List ℕ} {i n : ℕ} → length snapshot ≡ 1 + length edges₀ → n ≡ length edges₀ → i ≤ n → n ≤ i
@@ -105,7 +111,7 @@ module _ (n : ℕ) (snapshot : List ℕ) {r : ℕ} (form : r ≡ refusal (formCo
     load-passed t = sym (form-passed ∙ passed-after [] _ n everyone t ∙ refusal-none)
 
 -- a sheet's length is small
-pub bytes-small : (n : ℕ) → n ≤ maxNodes → edgeBytes n ≤ 4080
+pub bytes-small : (n : ℕ) → n ≤ maxNodes → edgeBytes n ≤ maxEdgeBytes
 unfolding pairCount
 bytes-small n h = omega (arith, mul-le-mul {n₂ = 256} {m₂ = 255} h (let l : n - 1 ≤ 255 = omega arith in l))
 
@@ -186,11 +192,11 @@ pub first-is : (edges : List ℕ) (n i : ℕ) → n ≤ maxNodes → i ≡ 0 →
 unfolding snapshotByte
 first-is edges n i few e = rw e (mod-eq-of-lt (omega arith))
 
-pub whole-is : (edges : List ℕ) (n i : ℕ) → Bytes edges → (i ≡ 0 → ⊥) → 8 * i ≤ pairCount n → getD edges (i - 1) 0 ≡ snapshotByte edges n i
-whole-is edges n zero small d h = absurd (d refl)
-whole-is edges n (suc k) small d h = let e : suc k - 1 ≡ k = omega arith in rw e (whole-byte edges n k (small k) h)
+pub whole-is : (edges : List ℕ) (n i : ℕ) {pairs : ℕ} → pairs ≡ pairCount n → Bytes edges → (i ≡ 0 → ⊥) → 8 * i ≤ pairs → getD edges (i - 1) 0 ≡ snapshotByte edges n i
+whole-is edges n zero p small d h = absurd (d refl)
+whole-is edges n (suc k) p small d h = let e : suc k - 1 ≡ k = omega arith in rw e (whole-byte edges n k (small k) (omega arith))
 
-pub last-is : (edges : List ℕ) (n i : ℕ) {r : ℕ} → Bytes edges → (i ≡ 0 → ⊥) → i < snapshotBytes n → pairCount n < 8 * i
-    → r ≡ getD edges (i - 1) 0 / 2 ^ (8 * i - pairCount n) * 2 ^ (8 * i - pairCount n) → r ≡ snapshotByte edges n i
-last-is edges n zero small d b h q = absurd (d refl)
-last-is edges n (suc k) small d b h q = let e : suc k - 1 ≡ k = omega arith in (rw e at q) ∙ last-byte edges n k (small k) h (omega arith)
+pub last-is : (edges : List ℕ) (n i : ℕ) {pairs r : ℕ} → pairs ≡ pairCount n → Bytes edges → (i ≡ 0 → ⊥) → i < snapshotBytes n → pairs < 8 * i
+    → r ≡ getD edges (i - 1) 0 / 2 ^ (8 * i - pairs) * 2 ^ (8 * i - pairs) → r ≡ snapshotByte edges n i
+last-is edges n zero p small d b h q = absurd (d refl)
+last-is edges n (suc k) p small d b h q = let e : suc k - 1 ≡ k = omega arith in (rw (e, p) at q) ∙ last-byte edges n k (small k) (omega arith) (omega arith)

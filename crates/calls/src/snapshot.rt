@@ -1,6 +1,7 @@
 // The calls that load a snapshot and write one.
-use packed::bits::get;
+use packed::bits::next_set;
 use packed::degrees::degrees_of;
+use packed::edges::row_start;
 use state::crowded::any_among;
 use state::crowded::any_over;
 use state::figures::set_bounds;
@@ -10,6 +11,7 @@ use state::refusal::CROWDED_BEFORE;
 use state::refusal::LENGTH;
 use state::refusal::MALFORMED;
 use state::refusal::OTHER_COUNT;
+use state::sizes::MAX_SNAPSHOT;
 use state::sizes::edge_bytes;
 use state::sizes::state_refusal;
 ghost use mathlib.Core.Path.{_≡_};
@@ -22,21 +24,13 @@ ghost use Rattle.state.specs.Refusal.{refusal, spareSet};
 ghost use Rattle.state.specs.Outcome.{left, state};
 ghost use Rattle.calls.specs.Snapshot.{formConditions, loadCall, snapshotByte, written, writeCall};
 
-// The bytes of a snapshot of 256 nodes.
-const MAX_SNAPSHOT: usize = 4081;
-
 // Whether a bit past the pairs of n nodes is set.
 fn spare_set(edges: &[u8], n: usize) -> bool
-    requires { ⌜ (0 < n) × (n ≤ maxNodes) × (length (now edges) ≡ edgeBytes n) ⌝ }
+    requires { ⌜ (n ≤ maxNodes) × (length (now edges) ≡ edgeBytes n) ⌝ }
     ensures { λ r. ⌜ r ≡ spareSet n (now (edges .entry)) ⌝ }
 {
-    let pairs = n * (n - 1) / 2;
-    for i in pairs..8 * edges.len() {
-        if get(edges, i) {
-            return true;
-        }
-    }
-    false
+    let end = 8 * edges.len();
+    next_set(edges, row_start(n), end) < end
 }
 
 // Refusals 9 and 10: the snapshot's form, and its number of nodes.
@@ -110,7 +104,7 @@ fn snapshot_byte(edges: &[u8], n: usize, i: usize) -> u8
     if i == 0 {
         return ((n - 1) % 256) as u8;
     }
-    let pairs = n * (n - 1) / 2;
+    let pairs = row_start(n);
     let x = edges[i - 1];
     if 8 * i <= pairs {
         return x;

@@ -2,7 +2,7 @@
 use mathlib.Core.Bool.{cond}
 use mathlib.Core.List.{[], List, _∷_}
 use mathlib.Core.Path.{ap, refl, sym, _∙_, _≡_}
-use Prim.Native.Nat.{_*_, _-_, _^_, ℕ, _≤_}
+use Prim.Native.Nat.{_*_, _-_, ℕ, _≤_}
 use native.Mathlib.Decide.{ℕ-discrete}
 use native.Mathlib.Omega.{arith}
 use borrow.Author.Tests.{eq-eqb, ne-eqb}
@@ -15,7 +15,7 @@ use Rattle.state.proofs.RefusalLaws.{append-refused, fitted-append, fitted-by, 
 use Rattle.calls.specs.Clear.{clearCall}
 use Rattle.edits.specs.Edit.{addCall, removeCall}
 use Rattle.state.specs.Outcome.{left, Outcome, outcome, state, stateLengths}
-use Rattle.state.specs.Refusal.{bufferLength, Condition, refusal}
+use Rattle.state.specs.Refusal.{bufferLength, Condition, oneNumber, refusal}
 use Rattle.calls.specs.Score.{scoreCall}
 use Rattle.state.specs.State.{State}
 use Rattle.calls.specs.declared.score.Scored.{Scored}
@@ -71,13 +71,9 @@ pub ended-accepted : (lent : State) (o : Outcome) → o .refusal ≡ 0 → _≡_
 unfolding ended
 ended-accepted lent o z = rw z
 
-pub score-refused : (n : ℕ) (links : List ℕ) (p : ℕ) {s : Scored} → s ≡ scoreCall links n p → (s .refusal ≡ 0 → ⊥) → 2 ^ 64 - s .refusal ≡ fjScore n links p
+pub score-given : (n : ℕ) (links : List ℕ) (p : ℕ) {s : Scored} → s ≡ scoreCall links n p → oneNumber (s .refusal) (s .score) ≡ fjScore n links p
 unfolding fjScore
-score-refused n links p {s} e d = rw (sym e, ne-eqb (s .refusal) 0 d)
-
-pub score-given : (n : ℕ) (links : List ℕ) (p : ℕ) {s : Scored} → s ≡ scoreCall links n p → s .refusal ≡ 0 → s .score ≡ fjScore n links p
-unfolding fjScore
-score-given n links p {s} e z = rw (sym e, z)
+score-given n links p e = rw e
 
 -- a call of the state that is refused leaves the state as it was
 abbrev pub Keeps : (State → Outcome) → Type 0

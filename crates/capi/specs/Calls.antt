@@ -1,12 +1,12 @@
 -- The calls that C makes, over the calls of the state: n is given, and the figures are 8n bytes. Assumes nothing.
 use mathlib.Core.Bool.{cond}
 use mathlib.Core.List.{List, [], _∷_, _++_}
-use Prim.Native.Nat.{ℕ, _-_, _*_, _^_}
+use Prim.Native.Nat.{ℕ, _*_}
 use lib.Dec.{eqb}
 use lib.ListN.{length}
 use Rattle.state.specs.State.{State}
-use Rattle.state.specs.Refusal.{Condition, refusal, bufferLength}
-use Rattle.state.specs.Outcome.{Outcome, left, state, stateLengths}
+use Rattle.state.specs.Refusal.{Condition, refusal, bufferLength, oneNumber}
+use Rattle.state.specs.Outcome.{Outcome, state, stateLengths}
 use Rattle.calls.specs.Clear.{clearCall}
 use Rattle.edits.specs.Edit.{addCall, removeCall}
 use Rattle.calls.specs.Score.{scoreCall}
@@ -45,4 +45,4 @@ fjRemove n lent a b = called (λ s. removeCall s a b) n lent
 unfoldable pub fjScore : ℕ → List ℕ → ℕ → ℕ
 fjScore n links p =
     let scored = scoreCall links n p in
-    cond (eqb (scored .refusal) 0) (scored .score) (2 ^ 64 - scored .refusal)
+    oneNumber (scored .refusal) (scored .score)

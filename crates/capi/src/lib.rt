@@ -8,6 +8,7 @@ use crate::decoded::remove_in;
 use calls::score::score;
 use packed::edges::MAX_NODES;
 use state::refusal::LENGTH;
+use state::refusal::one_number;
 use state::sizes::state_refusal;
 ghost use mathlib.Core.Path.{_≡_};
 ghost use lib.ListN.{replicate};
@@ -114,9 +115,5 @@ pub extern "C" fn fj_score(n: u64, links: &[u8], post: u64) -> u64
     ensures { λ r. ⌜ r ≡ fjScore n (now (links .entry)) post ⌝ }
 {
     let found = score(links, n as usize, post as usize);
-    let refusal = found.refusal;
-    if refusal != 0 {
-        return u64::MAX - (refusal - 1);
-    }
-    found.score
+    one_number(found.refusal, found.score)
 }

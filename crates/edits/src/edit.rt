@@ -154,7 +154,7 @@ fn renewed_count(on: bool, count: usize) -> usize
 }
 
 // Adds the edge a, b where `on`, and removes it elsewhere, in a state that has the lengths for it.
-fn apply(edges: &mut [u8], figures: &mut [u64], marks: &mut [u8], a: usize, b: usize, on: bool)
+pub fn apply(edges: &mut [u8], figures: &mut [u64], marks: &mut [u8], a: usize, b: usize, on: bool)
     requires { ⌜ Editable (state (now edges) (now figures) (now marks)) a b ⌝ }
     ensures { λ _. ⌜ state (now (edges .exit)) (now (figures .exit)) (now (marks .exit)) ≡ cond on (added (state (now (edges .entry)) (now (figures .entry)) (now (marks .entry))) a b) (removed (state (now (edges .entry)) (now (figures .entry)) (now (marks .entry))) a b) ⌝ }
 {
@@ -167,22 +167,6 @@ fn apply(edges: &mut [u8], figures: &mut [u64], marks: &mut [u8], a: usize, b: u
     let degrees = degrees_of(edges, n, nodes, degree(edges, n, a), renewed);
     mark_each(marks, nodes, count);
     bound_each(figures, nodes, degrees, renewed);
-}
-
-// Adds the edge a, b to a state that has the lengths for it.
-pub fn apply_add(edges: &mut [u8], figures: &mut [u64], marks: &mut [u8], a: usize, b: usize)
-    requires { ⌜ Editable (state (now edges) (now figures) (now marks)) a b ⌝ }
-    ensures { λ _. ⌜ state (now (edges .exit)) (now (figures .exit)) (now (marks .exit)) ≡ added (state (now (edges .entry)) (now (figures .entry)) (now (marks .entry))) a b ⌝ }
-{
-    apply(edges, figures, marks, a, b, true);
-}
-
-// Removes the edge a, b from a state that has the lengths for it.
-pub fn apply_remove(edges: &mut [u8], figures: &mut [u64], marks: &mut [u8], a: usize, b: usize)
-    requires { ⌜ Editable (state (now edges) (now figures) (now marks)) a b ⌝ }
-    ensures { λ _. ⌜ state (now (edges .exit)) (now (figures .exit)) (now (marks .exit)) ≡ removed (state (now (edges .entry)) (now (figures .entry)) (now (marks .entry))) a b ⌝ }
-{
-    apply(edges, figures, marks, a, b, false);
 }
 
 // Adds the edge a, b. Both ends take their bounds; they and their common neighbours become stale.

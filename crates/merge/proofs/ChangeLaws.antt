@@ -16,13 +16,12 @@ use Rattle.arith.specs.Digits.{bitOf}
 use Rattle.ego.proofs.Agreement.{Agree}
 use Rattle.ego.specs.Graph.{Graph}
 use Rattle.merge.proofs.MergeLaws.{merged-is}
-use Rattle.merge.proofs.PairOrder.{pair-number}
-use Rattle.merge.proofs.StepLaws.{aligned-base, aligned-theirs, in-untaken, out-untaken, row-none}
+use Rattle.merge.proofs.StepLaws.{aligned-base, aligned-theirs, row-none, untaken}
 use Rattle.merge.specs.Reconcile.{merged, overRow, takes}
-use Rattle.merge.specs.Steps.{Aligned, maxEdgeBytes, mergedByte, mergedEdges, putIn, SameRow, takenOut}
+use Rattle.merge.specs.Steps.{Aligned, mergedByte, mergedEdges, SameRow, stepped}
 use Rattle.packed.proofs.EdgeLaws.{edge-self, edge-two}
 use Rattle.packed.proofs.FirstLaws.{bit-xor}
-use Rattle.packed.proofs.PairLaws.{pair-lt, room-mono}
+use Rattle.packed.proofs.PairLaws.{pair-less, pair-lt, room-mono}
 use Rattle.packed.proofs.RowLaws.{row-within}
 use Rattle.packed.specs.Bits.{bitAt, differ, FirstFrom}
 use Rattle.packed.specs.Edges.{edge}
@@ -30,8 +29,8 @@ use Rattle.packed.specs.Pairs.{maxNodes, pairCount, pairIndex, Room}
 use Rattle.edits.proofs.SameRefusal.{tooMany-agree}
 use Rattle.calls.proofs.SnapshotLaws.{bytes-small}
 use Rattle.state.specs.Refusal.{everyone, tooMany}
-use Rattle.state.specs.Sizes.{edgeBytes}
-use Rattle.state.specs.State.{graph, State}
+use Rattle.state.specs.Sizes.{edgeBytes, maxEdgeBytes}
+use Rattle.state.specs.State.{State}
 
 -- ---- the bytes and the rows, as the code computes them
 
@@ -81,12 +80,12 @@ collected-row theirs base b {start} {end} {other} {k} e f l h t a m =
     let d : a ≡ b → ⊥ = λ q. omega arith in
     let i : ℕ = pairCount b + a in
     let same : getD theirs (i / 8) 0 ≡ getD base (i / 8) 0 = h (eqb-true other 0 t) (i / 8) (omega arith) (omega arith) in
-    edge-two theirs a b d ∙ ap (bitAt theirs) (pair-number a b m) ∙ ap (λ x. bitOf x (7 - i % 8)) same ∙ sym (ap (bitAt base) (pair-number a b m)) ∙ sym (edge-two base a b d)
+    edge-two theirs a b d ∙ ap (bitAt theirs) (pair-less a b m) ∙ ap (λ x. bitOf x (7 - i % 8)) same ∙ sym (ap (bitAt base) (pair-less a b m)) ∙ sym (edge-two base a b d)
 
 -- ---- the next pair of b that theirs has changed
 
 -- theirs has changed the pair a, b
-abbrev pub changed : Graph → Graph → ℕ → ℕ → Bool
+abbrev changed : Graph → Graph → ℕ → ℕ → Bool
 changed theirs base b a = differ (theirs a b) (base a b)
 
 module _ (theirs base : List ℕ) (b : ℕ) where
@@ -94,7 +93,7 @@ module _ (theirs base : List ℕ) (b : ℕ) where
   row-bit : (a : ℕ) → a < b → changed (edge theirs) (edge base) b a ≡ differ (bitAt theirs (pairCount b + a)) (bitAt base (pairCount b + a))
   row-bit a h =
       let d : a ≡ b → ⊥ = λ e. omega arith in
-      rw (edge-two theirs a b d, edge-two base a b d, pair-number a b h)
+      rw (edge-two theirs a b d, edge-two base a b d, pair-less a b h)
 
   pub next-in-row : {a r start : ℕ} → start ≡ pairCount b
       → FirstFrom (λ i. differ (bitAt theirs i) (bitAt base i)) (start + a) (start + b) r → FirstFrom (changed (edge theirs) (edge base) b) a b (r - start)
@@ -107,17 +106,6 @@ module _ (theirs base : List ℕ) (b : ℕ) where
 
 -- ---- the pairs between are as they were
 
-module _ (theirs base : Graph) (a b : ℕ) (s : State) (e : changed theirs base b a ≡ false) where
-  untaken : takes (graph s) theirs base a b ≡ false
-  unfolding takes
-  untaken = rw e
-
-  pub out-unchanged : s ≡ takenOut theirs base a b s
-  out-unchanged = out-untaken theirs base a b s untaken
-
-  pub in-unchanged : s ≡ putIn theirs base a b s
-  in-unchanged = in-untaken theirs base a b s untaken
-
 differ-same : {x y : Bool} → x ≡ y → differ x y ≡ false
 differ-same {x} e = rw (← e) (self x)
   where
@@ -125,24 +113,25 @@ differ-same {x} e = rw (← e) (self x)
     self true = refl
     self false = refl
 
-pub same-unchanged : (theirs base : Graph) (b : ℕ) → SameRow theirs base b → (a : ℕ) → a < b → changed theirs base b a ≡ false
-same-unchanged theirs base b h a l = differ-same (h a l)
+module _ (on : Bool) (theirs base : Graph) (b : ℕ) (s : State) where
+  unchanged : (a : ℕ) (t : State) → changed theirs base b a ≡ false → t ≡ stepped on theirs base a b t
+  unfolding takes
+  unchanged a t e = untaken on theirs base a b t (rw e)
 
-module _ (change : ℕ → ℕ → State → State) (s : State) (b : ℕ) (test : ℕ → Bool) (stays : (a : ℕ) (t : State) → test a ≡ false → t ≡ change a b t) where
-  row-skip : (m a : ℕ) → a ≤ m → ((i : ℕ) → a ≤ i → i < m → test i ≡ false) → overRow change b a s ≡ overRow change b m s
+  row-skip : (m a : ℕ) → a ≤ m → ((i : ℕ) → a ≤ i → i < m → changed theirs base b i ≡ false) → overRow (stepped on theirs base) b a s ≡ overRow (stepped on theirs base) b m s
   unfolding overRow
-  row-skip zero a h none = let e : a ≡ 0 = omega arith in ap (λ k. overRow change b k s) e
+  row-skip zero a h none = let e : a ≡ 0 = omega arith in ap (λ k. overRow (stepped on theirs base) b k s) e
   row-skip (suc m) a h none = elim (ℕ-discrete a (suc m)) [
-    | yes e ↦ ap (λ k. overRow change b k s) e
-    | no d ↦ row-skip m a (omega arith) (λ i p q. none i p (omega arith)) ∙ stays m (overRow change b m s) (none m (omega arith) (omega arith))
+    | yes e ↦ ap (λ k. overRow (stepped on theirs base) b k s) e
+    | no d ↦ row-skip m a (omega arith) (λ i p q. none i p (omega arith)) ∙ unchanged m _ (none m (omega arith) (omega arith))
   ]
 
-  -- a row of which no pair passes the test
-  pub row-stays : ((i : ℕ) → i < b → test i ≡ false) → s ≡ overRow change b b s
-  row-stays none = row-none change s b ∙ row-skip b 0 zero-le (λ i p q. none i q)
+  -- a row that theirs has not changed
+  pub row-stays : SameRow theirs base b → s ≡ overRow (stepped on theirs base) b b s
+  row-stays h = row-none (stepped on theirs base) s b ∙ row-skip b 0 zero-le (λ i p q. differ-same (h i q))
 
-  -- up to the next pair that passes the test nothing is left to do
-  pub row-next : {a r : ℕ} {t : State} → t ≡ overRow change b a s → FirstFrom test a b r → t ≡ overRow change b r s
+  -- up to the next pair that theirs has changed nothing is left to do
+  pub row-next : {a r : ℕ} {t : State} → t ≡ overRow (stepped on theirs base) b a s → FirstFrom (changed theirs base b) a b r → t ≡ overRow (stepped on theirs base) b r s
   row-next {a} {r} e f = e ∙ row-skip r a (f .start) (f .none)
 
 -- ---- a byte of the edges after the call

@@ -1,5 +1,5 @@
 -- Reconcile leaves the merged graph: each pair as the editor who changed it left it, otherwise as in the common original. Assumes nothing.
-use mathlib.Core.Bool.{_&&_, Bool, cond, false, not, true, true≢false}
+use mathlib.Core.Bool.{_&&_, Bool, Bool·beq, cond, false, not, true, true≢false}
 use mathlib.Core.List.{List}
 use mathlib.Core.Logic.{inl, inr}
 use mathlib.Core.Path.{ap, refl, sym, _∙_, _≡_}
@@ -15,7 +15,7 @@ use Rattle.ego.specs.Change.{withPair}
 use Rattle.ego.specs.Graph.{Graph, Simple}
 use Rattle.merge.proofs.PairOrder.{over-pairs, over-same}
 use Rattle.merge.specs.Reconcile.{adding, merged, overPairs, reconcileCall, reconcileConditions, reconciled, removing, takes}
-use Rattle.merge.specs.Steps.{putIn, takenOut}
+use Rattle.merge.specs.Steps.{stepped}
 use Rattle.packed.specs.Bits.{differ}
 use Rattle.packed.specs.Edges.{edge}
 use Rattle.calls.proofs.AcceptLaws.{lengths-fit, outcome-accepted, outcome-refusal}
@@ -52,13 +52,17 @@ come-was false true false e = absurd (true≢false (sym e))
 come-was false false m e = absurd (true≢false (sym e))
 
 -- whether a pair is added is the same once the removals are made
-come-same : (t o m : Bool) → (differ t o && differ t (less t o m) && t) ≡ (differ t o && differ t m && t)
+come-same : (t o m : Bool) → (differ t o && differ t (less t o m) && Bool·beq t true) ≡ (differ t o && differ t m && t)
 come-same true true m = refl
 come-same true false true = refl
 come-same true false false = refl
 come-same false true true = refl
 come-same false true false = refl
 come-same false false m = refl
+
+is-gone : (t : Bool) → Bool·beq t false ≡ not t
+is-gone true = refl
+is-gone false = refl
 
 -- taking where theirs differs from both is taking where it differs from the original
 taken : (t o m : Bool) → cond (differ t o && differ t m) t m ≡ cond (differ t o) t m
@@ -101,87 +105,84 @@ merged-is mine theirs base a b = taken (theirs a b) (base a b) (mine a b)
 unfoldable thinned : Graph → Graph → Graph → Graph
 thinned mine theirs base a b = cond (takes mine theirs base a b && not (theirs a b)) false (mine a b)
 
-module _ (mine theirs base : Graph) (m : Simple mine) (t : Simple theirs) (o : Simple base) where
-  thinned-simple : Simple (thinned mine theirs base)
-  unfolding thinned takes
-  thinned-simple = record {
-    symmetric = λ a b. rw (m .symmetric a b, t .symmetric a b, o .symmetric a b);
-    loopless = λ a. rw (m .loopless a, t .loopless a, o .loopless a);
-  }
+module _ (mine theirs base : Graph) where
+  -- the additions where `on`, the removals elsewhere: the graph before them, the graph after them, and the change at a pair
+  abbrev old : Bool → Graph
+  old true = thinned mine theirs base
+  old false = mine
 
-  merged-simple : Simple (merged mine theirs base)
-  unfolding merged takes
-  merged-simple = record {
-    symmetric = λ a b. rw (m .symmetric a b, t .symmetric a b, o .symmetric a b);
-    loopless = λ a. rw (m .loopless a, t .loopless a, o .loopless a);
-  }
+  abbrev new : Bool → Graph
+  new true = merged mine theirs base
+  new false = thinned mine theirs base
 
--- ---- the state
+  abbrev taking : Bool → ℕ → ℕ → State → State
+  taking true = adding mine theirs base
+  taking false = removing mine theirs base
 
-module _ (n : ℕ) (P : Graph → State → Type 0) (agree : (g g′ : Graph) (s : State) → Agree n g g′ → P g s → P g′ s)
-    (symmetric : (g : Graph) (s : State) → P g s → (a b : ℕ) → a < n → b < n → g a b ≡ g b a)
-    (adds : (g : Graph) (s : State) (a b : ℕ) → Named n g a b false → P g s → P (withPair g a b true) (added s a b))
-    (removes : (g : Graph) (s : State) (a b : ℕ) → Named n g a b true → P g s → P (withPair g a b false) (removed s a b)) where
-  -- the pair set as it stands
-  stays : (g : Graph) (s : State) (a b : ℕ) → a < n → b < n → (on : Bool) → g a b ≡ on → P g s → P (withPair g a b on) s
-  stays g s a b ha hb on e p =
-      agree g (withPair g a b on) s (λ x y hx hy. pair-is g g a b on x y (λ q r. rw (q, r) e) (λ q r. rw (q, r) (symmetric g s p b a hb ha ∙ e)) (λ q r. refl)) p
-
-  module _ (mine theirs base : Graph) where
-    removing-does : (a b : ℕ) → a < b → b < n → (g : Graph) (s : State) → g a b ≡ mine a b → P g s
-        → P (withPair g a b (thinned mine theirs base a b)) (removing mine theirs base a b s)
+  module _ (m : Simple mine) (t : Simple theirs) (o : Simple base) where
+    thinned-simple : Simple (thinned mine theirs base)
     unfolding thinned takes
-    removing-does a b h l g s e p = elim (test (takes mine theirs base a b && not (theirs a b))) [
-      | inl q ↦ rw q (removes g s a b (record { first = omega arith; second = l; two = λ z. omega arith; was = e ∙ gone-was (theirs a b) (base a b) (mine a b) q }) p)
-      | inr q ↦ rw q (stays g s a b (omega arith) l (mine a b) e p)
-    ]
+    thinned-simple = record {
+      symmetric = λ a b. rw (m .symmetric a b, t .symmetric a b, o .symmetric a b);
+      loopless = λ a. rw (m .loopless a, t .loopless a, o .loopless a);
+    }
 
-    adding-does : (a b : ℕ) → a < b → b < n → (g : Graph) (s : State) → g a b ≡ thinned mine theirs base a b → P g s
-        → P (withPair g a b (merged mine theirs base a b)) (adding mine theirs base a b s)
+    merged-simple : Simple (merged mine theirs base)
+    unfolding merged takes
+    merged-simple = record {
+      symmetric = λ a b. rw (m .symmetric a b, t .symmetric a b, o .symmetric a b);
+      loopless = λ a. rw (m .loopless a, t .loopless a, o .loopless a);
+    }
+
+    old-simple : (on : Bool) → Simple (old on)
+    old-simple true = thinned-simple
+    old-simple false = m
+
+    new-simple : (on : Bool) → Simple (new on)
+    new-simple true = merged-simple
+    new-simple false = thinned-simple
+
+  -- ---- the state
+
+  module _ (n : ℕ) (P : Graph → State → Type 0) (agree : (g g′ : Graph) (s : State) → Agree n g g′ → P g s → P g′ s) (shows : (g : Graph) (s : State) → P g s → Shows n g s)
+      (adds : (g : Graph) (s : State) (a b : ℕ) → Named n g a b false → P g s → P (withPair g a b true) (added s a b))
+      (removes : (g : Graph) (s : State) (a b : ℕ) → Named n g a b true → P g s → P (withPair g a b false) (removed s a b)) where
+    -- the pair set as it stands
+    stays : (g : Graph) (s : State) (a b : ℕ) → a < n → b < n → (on : Bool) → g a b ≡ on → P g s → P (withPair g a b on) s
+    stays g s a b ha hb on e p =
+        agree g (withPair g a b on) s (λ x y hx hy. pair-is g g a b on x y (λ q r. rw (q, r) e) (λ q r. rw (q, r) (shows-symmetric (shows g s p) b a hb ha ∙ e)) (λ q r. refl)) p
+
+    does : (on : Bool) (a b : ℕ) → a < b → b < n → (g : Graph) (s : State) → g a b ≡ old on a b → P g s → P (withPair g a b (new on a b)) (taking on a b s)
     unfolding thinned merged takes
-    adding-does a b h l g s e p = elim (test (takes mine theirs base a b && theirs a b)) [
+    does true a b h l g s e p = elim (test (takes mine theirs base a b && theirs a b)) [
       | inl q ↦ rw (q, come-is (theirs a b) (base a b) (mine a b) q)
           (adds g s a b (record { first = omega arith; second = l; two = λ z. omega arith; was = e ∙ come-was (theirs a b) (base a b) (mine a b) q }) p)
       | inr q ↦ rw (q, stay-is (theirs a b) (base a b) (mine a b) q) (stays g s a b (omega arith) l _ e p)
     ]
+    does false a b h l g s e p = elim (test (takes mine theirs base a b && not (theirs a b))) [
+      | inl q ↦ rw q (removes g s a b (record { first = omega arith; second = l; two = λ z. omega arith; was = e ∙ gone-was (theirs a b) (base a b) (mine a b) q }) p)
+      | inr q ↦ rw q (stays g s a b (omega arith) l (mine a b) e p)
+    ]
 
-    merges : Simple mine → Simple theirs → Simple base → (s : State) → P mine s
-        → P (merged mine theirs base) (overPairs (adding mine theirs base) n (overPairs (removing mine theirs base) n s))
-    merges m t o s p =
-        let thin = thinned-simple mine theirs base m t o in
-        over-pairs (merged mine theirs base) (thinned mine theirs base) (merged-simple mine theirs base m t o) thin n P agree (adding mine theirs base) adding-does _
-        (over-pairs (thinned mine theirs base) mine thin m n P agree (removing mine theirs base) removing-does s p)
+    -- the pair decided from the state that the loops stand at
+    same : (on : Bool) (a b : ℕ) → a < b → b < n → (g : Graph) (s : State) → g a b ≡ old on a b → P g s → stepped on theirs base a b s ≡ taking on a b s
+    unfolding stepped thinned takes
+    same true a b h l g s e p = rw (shows g s p .links a b (omega arith) l ∙ e, come-same (theirs a b) (base a b) (mine a b))
+    same false a b h l g s e p = rw (shows g s p .links a b (omega arith) l ∙ e, is-gone (theirs a b))
 
--- ---- the loops decide from the state they stand at
+    module _ (m : Simple mine) (t : Simple theirs) (o : Simple base) where
+      all-done : (on : Bool) (s : State) → P (old on) s → P (new on) (overPairs (taking on) n s)
+      all-done on = over-pairs (new on) (old on) (new-simple m t o on) (old-simple m t o on) n P agree (taking on) (does on)
 
-module _ (n : ℕ) (mine theirs base : Graph) where
-  out-same : (a b : ℕ) → a < b → b < n → (g : Graph) (s : State) → g a b ≡ mine a b → Shows n g s → takenOut theirs base a b s ≡ removing mine theirs base a b s
-  unfolding takenOut takes
-  out-same a b h l g s e p = rw (p .links a b (omega arith) l ∙ e)
+      all-same : (on : Bool) (s : State) → P (old on) s → overPairs (stepped on theirs base) n s ≡ overPairs (taking on) n s
+      all-same on = over-same (new on) (old on) (new-simple m t o on) (old-simple m t o on) n P agree (taking on) (does on) (stepped on theirs base) (same on)
 
-  in-same : (a b : ℕ) → a < b → b < n → (g : Graph) (s : State) → g a b ≡ thinned mine theirs base a b → Shows n g s → putIn theirs base a b s ≡ adding mine theirs base a b s
-  unfolding putIn takes thinned
-  in-same a b h l g s e p = rw (p .links a b (omega arith) l ∙ e, come-same (theirs a b) (base a b) (mine a b))
+      module _ (s : State) (p : P mine s) where
+        merges : P (merged mine theirs base) (overPairs (adding mine theirs base) n (overPairs (removing mine theirs base) n s))
+        merges = all-done true _ (all-done false s p)
 
-  module _ (m : Simple mine) (t : Simple theirs) (o : Simple base) (s : State) (p : Shows n mine s) where
-    abbrev thin : Simple (thinned mine theirs base)
-    thin = thinned-simple mine theirs base m t o
-
-    abbrev removes-shown : (a b : ℕ) → a < b → b < n → (g : Graph) (s : State) → g a b ≡ mine a b → Shows n g s
-        → Shows n (withPair g a b (thinned mine theirs base a b)) (removing mine theirs base a b s)
-    removes-shown = removing-does n (Shows n) (λ g g′ t. shows-agree) (λ g t. shows-symmetric) (λ g t a b. added-shows a b) (λ g t a b. removed-shows a b) mine theirs base
-
-    abbrev adds-shown : (a b : ℕ) → a < b → b < n → (g : Graph) (s : State) → g a b ≡ thinned mine theirs base a b → Shows n g s
-        → Shows n (withPair g a b (merged mine theirs base a b)) (adding mine theirs base a b s)
-    adds-shown = adding-does n (Shows n) (λ g g′ t. shows-agree) (λ g t. shows-symmetric) (λ g t a b. added-shows a b) (λ g t a b. removed-shows a b) mine theirs base
-
-    removals-same : overPairs (takenOut theirs base) n s ≡ overPairs (removing mine theirs base) n s
-    removals-same = over-same (thinned mine theirs base) mine thin m n (Shows n) (λ g g′ t. shows-agree) (removing mine theirs base) removes-shown (takenOut theirs base) out-same s p
-
-    additions-same : overPairs (putIn theirs base) n (overPairs (removing mine theirs base) n s) ≡ overPairs (adding mine theirs base) n (overPairs (removing mine theirs base) n s)
-    additions-same =
-        over-same (merged mine theirs base) (thinned mine theirs base) (merged-simple mine theirs base m t o) thin n (Shows n) (λ g g′ t. shows-agree) (adding mine theirs base) adds-shown (putIn theirs base) in-same _
-        (over-pairs (thinned mine theirs base) mine thin m n (Shows n) (λ g g′ t. shows-agree) (removing mine theirs base) removes-shown s p)
+        steps-same : overPairs (stepped true theirs base) n (overPairs (stepped false theirs base) n s) ≡ overPairs (adding mine theirs base) n (overPairs (removing mine theirs base) n s)
+        steps-same = ap (overPairs (stepped true theirs base) n) (all-same false s p) ∙ all-same true _ (all-done false s p)
 
 module _ (s : State) (theirs base : List ℕ) where
   abbrev result : Graph
@@ -189,27 +190,25 @@ module _ (s : State) (theirs base : List ℕ) where
 
   -- the loops, which decide each pair from the state they stand at, leave what the definition leaves
   pub steps-reconcile : {t u : State} → Fitted (size s) (length (s .edges)) (length (s .marks))
-      → u ≡ overPairs (takenOut (edge theirs) (edge base)) (size s) s → size u ≡ size s
-      → t ≡ overPairs (putIn (edge theirs) (edge base)) (size u) u → t ≡ reconciled s theirs base
+      → u ≡ overPairs (stepped false (edge theirs) (edge base)) (size s) s → size u ≡ size s
+      → t ≡ overPairs (stepped true (edge theirs) (edge base)) (size u) u → t ≡ reconciled s theirs base
   unfolding reconciled
   steps-reconcile {u = u} f d k e =
-      let h : Shows (size s) (graph s) s = record { nodes = refl; fits = f; links = λ x y hx hy. refl } in
-      let m = simple-edges (s .edges) in
-      let t = simple-edges theirs in
-      let o = simple-edges base in
-      e ∙ ap (λ n. overPairs (putIn (edge theirs) (edge base)) n u) k
-      ∙ ap (overPairs (putIn (edge theirs) (edge base)) (size s)) (d ∙ removals-same (size s) (graph s) (edge theirs) (edge base) m t o s h)
-      ∙ additions-same (size s) (graph s) (edge theirs) (edge base) m t o s h
+      e ∙ ap (λ n. overPairs (stepped true (edge theirs) (edge base)) n u) k ∙ ap (overPairs (stepped true (edge theirs) (edge base)) (size s)) d
+      ∙ steps-same (graph s) (edge theirs) (edge base) (size s) (Shows (size s)) (λ g g′ t. shows-agree) (λ g t h. h) (λ g t a b. added-shows a b) (λ g t a b. removed-shows a b)
+      (simple-edges (s .edges)) (simple-edges theirs) (simple-edges base) s (record { nodes = refl; fits = f; links = λ x y hx hy. refl })
 
   pub reconciled-shows : Shows (size s) (graph s) s → Shows (size s) result (reconciled s theirs base)
   unfolding reconciled
-  reconciled-shows h = merges (size s) (Shows (size s)) (λ g g′ t. shows-agree) (λ g t. shows-symmetric) (λ g t a b. added-shows a b) (λ g t a b. removed-shows a b)
-      (graph s) (edge theirs) (edge base) (simple-edges (s .edges)) (simple-edges theirs) (simple-edges base) s h
+  reconciled-shows =
+      merges (graph s) (edge theirs) (edge base) (size s) (Shows (size s)) (λ g g′ t. shows-agree) (λ g t h. h) (λ g t a b. added-shows a b) (λ g t a b. removed-shows a b)
+      (simple-edges (s .edges)) (simple-edges theirs) (simple-edges base) s
 
   pub reconciled-sound : Sound (size s) (graph s) s → Sound (size s) result (reconciled s theirs base)
   unfolding reconciled
-  reconciled-sound h = merges (size s) (Sound (size s)) (λ g g′ t. sound-agree) (λ g t k. shows-symmetric (k .shows)) (λ g t a b. added-sound a b) (λ g t a b. removed-sound a b)
-      (graph s) (edge theirs) (edge base) (simple-edges (s .edges)) (simple-edges theirs) (simple-edges base) s h
+  reconciled-sound =
+      merges (graph s) (edge theirs) (edge base) (size s) (Sound (size s)) (λ g g′ t. sound-agree) (λ g t h. h .shows) (λ g t a b. added-sound a b) (λ g t a b. removed-sound a b)
+      (simple-edges (s .edges)) (simple-edges theirs) (simple-edges base) s
 
   -- AFTER AN ACCEPTED CALL each pair is as the editor who changed it left it, otherwise as in the common original.
   pub pair-stands : reconcileCall s theirs base .refusal ≡ 0 → (a b : ℕ) → a < size s → b < size s

@@ -30,10 +30,6 @@ module _ (new old : Graph) (i x y : ℕ) where
   unfolding halfway
   is-old h = rw (le-ltb (pairIndex x y) i h)
 
-pub pair-number : (a b : ℕ) → a < b → pairIndex a b ≡ pairCount b + a
-unfolding pairCount
-pair-number a b h = pair-less a b h
-
 module _ (new old : Graph) (fresh : Simple new) (past : Simple old) where
   no-loop : (i x y : ℕ) → x ≡ y → halfway new old i x y ≡ false
   no-loop i x y e = elim (decLt (pairIndex x y) i) [
@@ -64,7 +60,7 @@ module _ (new old : Graph) (fresh : Simple new) (past : Simple old) where
     row zero b s h l p = rw add-zero p
     row (suc a) b s h l p =
         let i : ℕ = pairCount b + a in
-        let e = pair-number a b h in
+        let e = pair-less a b h in
         agree _ _ _ (λ x y hx hy. sym (halfway-more a b i x y h e) ∙ ap (λ j. halfway new old j x y) (omega arith))
         (does a b h l (halfway new old i) _ (is-old new old i a b (omega arith)) (row a b s (omega arith) l p))
 
@@ -87,7 +83,7 @@ module _ (new old : Graph) (fresh : Simple new) (past : Simple old) where
       row-same zero b s h l p = refl
       row-same (suc a) b s h l p =
           let i : ℕ = pairCount b + a in
-          let e = pair-number a b h in
+          let e = pair-less a b h in
           ap (other a b) (row-same a b s (omega arith) l p) ∙ same a b h l (halfway new old i) _ (is-old new old i a b (omega arith)) (row a b s (omega arith) l p)
 
       rows-same : (b : ℕ) (s : State) → b ≤ n → P old s → overPairs other b s ≡ overPairs change b s

@@ -1,23 +1,25 @@
 -- One pair of a reconcile and one turn of its loops, in the shape of the loops' needs. Assumes nothing.
-use mathlib.Core.Bool.{_&&_, Bool, false, true}
+use mathlib.Core.Bool.{_&&_, Bool, Bool·beq, cond, false, not, true}
 use mathlib.Core.List.{List, _∷_}
 use mathlib.Core.Path.{ap, refl, _∙_, _≡_}
-use Prim.Native.Nat.{_+_, _<_, max, ℕ}
+use Prim.Native.Nat.{_+_, _<_, max, ℕ, _≤_}
 use native.Mathlib.Decide.{ℕ-discrete}
+use native.Mathlib.Nat.{le-antisymm}
 use native.Mathlib.Numerals.{add-one}
 use native.Mathlib.Omega.{arith}
+use borrow.Author.Tests.{not-false}
 use lib.ListN.{length}
 use Rattle.ego.specs.Graph.{Graph}
 use Rattle.merge.specs.Reconcile.{overPairs, overRow, takes}
-use Rattle.merge.specs.Steps.{Aligned, putIn, takenOut}
+use Rattle.merge.specs.Steps.{Aligned, stepped}
 use Rattle.packed.proofs.PairLaws.{room-within}
 use Rattle.packed.specs.Bits.{differ}
 use Rattle.packed.specs.Pairs.{Room}
 use Rattle.state.proofs.RefusalLaws.{Fitted, passed-length, refused-length}
-use Rattle.edits.specs.Edit.{added, Editable, removed}
+use Rattle.edits.specs.Edit.{added, removed}
 use Rattle.state.specs.Refusal.{bufferLength, Condition, refusal}
 use Rattle.state.specs.Sizes.{edgeBytes}
-use Rattle.state.specs.State.{graph, size, State}
+use Rattle.state.specs.State.{graph, State}
 
 -- ---- one pair: theirs, the original, mine
 
@@ -27,30 +29,20 @@ module _ (mine theirs base : Graph) (a b : ℕ) where
   takes-is e f = rw (e, f)
 
 -- what is decided of the pair a, b at the state s
-module _ (theirs base : Graph) (a b : ℕ) (s : State) where
-  pub out-untaken : takes (graph s) theirs base a b ≡ false → s ≡ takenOut theirs base a b s
-  unfolding takenOut
-  out-untaken e = rw e
+module _ (on : Bool) (theirs base : Graph) (a b : ℕ) (s : State) where
+  pub untaken : takes (graph s) theirs base a b ≡ false → s ≡ stepped on theirs base a b s
+  unfolding stepped
+  untaken e = rw e
 
-  pub out-there : takes (graph s) theirs base a b ≡ true → theirs a b ≡ true → s ≡ takenOut theirs base a b s
-  unfolding takenOut
-  out-there e f = rw (e, f)
+  -- where it takes theirs: by whether theirs has it
+  module _ {took there : Bool} (e : took ≡ takes (graph s) theirs base a b) (f : not took ≡ false) (h : there ≡ theirs a b) where
+    pub unlike : Bool·beq there on ≡ false → s ≡ stepped on theirs base a b s
+    unfolding stepped
+    unlike k = rw (← e, not-false took f, ← h, k)
 
-  pub out-gone : {t : State} → takes (graph s) theirs base a b ≡ true → theirs a b ≡ false → t ≡ removed s a b → t ≡ takenOut theirs base a b s
-  unfolding takenOut
-  out-gone e f q = rw (e, f) q
-
-  pub in-untaken : takes (graph s) theirs base a b ≡ false → s ≡ putIn theirs base a b s
-  unfolding putIn
-  in-untaken e = rw e
-
-  pub in-gone : takes (graph s) theirs base a b ≡ true → theirs a b ≡ false → s ≡ putIn theirs base a b s
-  unfolding putIn
-  in-gone e f = rw (e, f)
-
-  pub in-there : {t : State} → takes (graph s) theirs base a b ≡ true → theirs a b ≡ true → t ≡ added s a b → t ≡ putIn theirs base a b s
-  unfolding putIn
-  in-there e f q = rw (e, f) q
+    pub alike : {t : State} → Bool·beq there on ≡ true → t ≡ cond on (added s a b) (removed s a b) → t ≡ stepped on theirs base a b s
+    unfolding stepped
+    alike k q = rw (← e, not-false took f, ← h, k) q
 
 -- ---- one turn
 
@@ -63,6 +55,9 @@ module _ (change : ℕ → ℕ → State → State) (s : State) where
   unfolding overRow
   row-step b a e f = rw add-one (f ∙ ap (change a b) e)
 
+  pub row-done : (b a : ℕ) {t : State} → t ≡ overRow change b a s → a ≤ b → b ≤ a → t ≡ overRow change b b s
+  row-done b a e h l = e ∙ ap (λ m. overRow change b m s) (le-antisymm h l)
+
   pub pairs-none : s ≡ overPairs change 0 s
   unfolding overPairs
   pairs-none = refl
@@ -70,6 +65,9 @@ module _ (change : ℕ → ℕ → State → State) (s : State) where
   pub pairs-step : (b : ℕ) {t u : State} → t ≡ overPairs change b s → u ≡ overRow change b b t → u ≡ overPairs change (b + 1) s
   unfolding overPairs
   pairs-step b e f = rw add-one (f ∙ ap (overRow change b b) e)
+
+  pub pairs-done : (n b : ℕ) {t : State} → t ≡ overPairs change b s → b ≤ n → n ≤ b → t ≡ overPairs change n s
+  pairs-done n b e h l = e ∙ ap (λ m. overPairs change m s) (le-antisymm h l)
 
 -- ---- the lengths
 
@@ -94,9 +92,6 @@ module _ {n a b marks : ℕ} (ha : a < n) (hb : b < n) {edges theirs base : List
     room-within a b n theirs ha hb (aligned-theirs h theirs refl),
     room-within a b n base ha hb (aligned-base h base refl),
   )
-
-pub aligned-editable : {s : State} {a b theirs base : ℕ} → a < size s → b < size s → Aligned (size s) (length (s .edges)) (length (s .marks)) theirs base → Editable s a b
-aligned-editable {s} ha hb h = record { firstBelow = ha; secondBelow = hb; room = aligned-room h (s .edges) refl; marked = omega (arith, h .marksFit) }
 
 -- ---- the lengths of a reconcile that is accepted
 

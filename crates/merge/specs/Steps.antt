@@ -1,5 +1,5 @@
 -- One pair of a reconcile as the loops decide it, from the state they stand at, and one byte of the edges that it leaves. Assumes nothing.
-use mathlib.Core.Bool.{cond}
+use mathlib.Core.Bool.{Bool, Bool·beq, cond, _&&_}
 use mathlib.Core.List.{List}
 use mathlib.Core.Path.{_≡_}
 use Prim.Native.Nat.{ℕ, _≤_, _<_}
@@ -9,16 +9,15 @@ use Rattle.arith.specs.Sums.{fillTo, packTo}
 use Rattle.packed.specs.Bits.{differ}
 use Rattle.packed.specs.Pairs.{maxNodes}
 use Rattle.ego.specs.Graph.{Graph}
-use Rattle.state.specs.Sizes.{edgeBytes}
+use Rattle.state.specs.Sizes.{edgeBytes, maxEdgeBytes}
 use Rattle.state.specs.Marks.{markBytes}
 use Rattle.state.specs.State.{State, graph}
-use Rattle.merge.specs.Reconcile.{removing, adding}
+use Rattle.edits.specs.Edit.{added, removed}
+use Rattle.merge.specs.Reconcile.{takes}
 
-unfoldable pub takenOut : Graph → Graph → ℕ → ℕ → State → State
-takenOut theirs base a b s = removing (graph s) theirs base a b s
-
-unfoldable pub putIn : Graph → Graph → ℕ → ℕ → State → State
-putIn theirs base a b s = adding (graph s) theirs base a b s
+-- the pair is set to `on` where it takes theirs and theirs has it so
+unfoldable pub stepped : Bool → Graph → Graph → ℕ → ℕ → State → State
+stepped on theirs base a b s = cond (takes (graph s) theirs base a b && Bool·beq (theirs a b) on) (cond on (added s a b) (removed s a b)) s
 
 -- the lengths that the loops need, of the edges, the marks and the two other edge buffers of n nodes
 pub record Aligned (n edges marks theirs base : ℕ) : Type 0 where
@@ -36,10 +35,6 @@ SameRow theirs base b = (a : ℕ) → a < b → theirs a b ≡ base a b
 unfoldable pub mergedByte : ℕ → ℕ → ℕ → ℕ
 mergedByte mine theirs base = packTo (λ j. cond (differ (bitOf theirs j) (bitOf base j)) (bitOf theirs j) (bitOf mine j)) 8
 
--- the bytes of the edges of 256 nodes
-abbrev pub maxEdgeBytes : ℕ
-maxEdgeBytes = 4080
-
--- the edges of n nodes after the call, in as many bytes
+-- the edges of n nodes after the call, in as many bytes as the most nodes take
 unfoldable pub mergedEdges : List ℕ → List ℕ → List ℕ → ℕ → List ℕ
 mergedEdges mine theirs base n = fillTo (λ k. mergedByte (getD mine k 0) (getD theirs k 0) (getD base k 0)) (replicate maxEdgeBytes 0) (edgeBytes n)

@@ -1,5 +1,4 @@
 // Reconcile two editors' graphs.
-pub mod additions;
 pub mod merged;
 pub mod reconcile;
-pub mod removals;
+pub mod taken;

@@ -3,6 +3,8 @@ use packed::bits::next_differing;
 use packed::edges::has;
 use packed::edges::row_start;
 use state::crowded::any_over;
+use state::sizes::MAX_EDGE_BYTES;
+use state::sizes::edge_bytes;
 ghost use mathlib.Core.Path.{_≡_};
 ghost use mathlib.Core.Bool.{true};
 ghost use Prim.Native.Nat.{_+_, _≤_, max};
@@ -12,9 +14,6 @@ ghost use Rattle.packed.specs.Edges.{edge};
 ghost use Rattle.state.specs.Refusal.{tooMany, everyone};
 ghost use Rattle.merge.specs.Reconcile.{takes, merged};
 ghost use Rattle.merge.specs.Steps.{mergedByte, mergedEdges, SameRow};
-
-// The bytes of the edges of 256 nodes.
-const MAX_EDGE_BYTES: usize = 4080;
 
 // Whether the pair a, b takes theirs: it differs there from the original and from mine.
 pub(crate) fn takes(edges: &[u8], theirs: &[u8], base: &[u8], a: usize, b: usize) -> bool
@@ -69,7 +68,7 @@ fn merged_edges(edges: &[u8], theirs: &[u8], base: &[u8], n: usize) -> [u8; MAX_
     ensures { λ r. ⌜ r ≡ mergedEdges (now (edges .entry)) (now (theirs .entry)) (now (base .entry)) n ⌝ }
 {
     let mut after = [0u8; MAX_EDGE_BYTES];
-    let bytes = (row_start(n) + 7) / 8;
+    let bytes = edge_bytes(n);
     for i in 0..bytes {
         after[i] = merged_byte(edges[i], theirs[i], base[i]);
     }

@@ -1,7 +1,6 @@
 // The call that brings another editor's changes into the state.
-use crate::additions::put_in_all;
 use crate::merged::any_over_after;
-use crate::removals::take_out_all;
+use crate::taken::take_all;
 use state::crowded::any_over;
 use state::refusal::CROWDED_AFTER;
 use state::refusal::CROWDED_BEFORE;
@@ -9,7 +8,6 @@ use state::refusal::LENGTH;
 use state::sizes::edge_bytes;
 use state::sizes::state_refusal;
 ghost use mathlib.Core.Path.{_≡_};
-ghost use Prim.Native.Nat.{_<_};
 ghost use Rattle.packed.specs.Pairs.{Room};
 ghost use Rattle.packed.specs.Edges.{edge};
 ghost use Rattle.state.specs.Refusal.{refusal};
@@ -18,7 +16,7 @@ ghost use Rattle.merge.specs.Reconcile.{merged, reconcileConditions, rec
 
 // The refusals of a reconcile after those of the state's lengths.
 fn reconcile_refusal(edges: &[u8], theirs: &[u8], base: &[u8], n: usize) -> u64
-    requires { ⌜ (0 < n) × Room n (now edges) ⌝ }
+    requires { ⌜ Room n (now edges) ⌝ }
     ensures { λ r. ⌜ r ≡ refusal (reconcileConditions n (edge (now (edges .entry))) (merged (edge (now (edges .entry))) (edge (now (theirs .entry))) (edge (now (base .entry)))) (now (theirs .entry)) (now (base .entry))) ⌝ }
 {
     let bytes = edge_bytes(n);
@@ -56,7 +54,7 @@ pub fn reconcile(
     if refusal != 0 {
         return refusal;
     }
-    take_out_all(edges, figures, marks, theirs, base);
-    put_in_all(edges, figures, marks, theirs, base);
+    take_all(edges, figures, marks, theirs, base, false);
+    take_all(edges, figures, marks, theirs, base, true);
     0
 }

@@ -25,7 +25,7 @@ pub bit-two : (on : Bool) → bit on < 2
 bit-two true = lit< tt
 bit-two false = lit< tt
 
-bit-back : (on : Bool) → eqb (bit on) 1 ≡ on
+pub bit-back : (on : Bool) → eqb (bit on) 1 ≡ on
 bit-back true = refl
 bit-back false = refl
 

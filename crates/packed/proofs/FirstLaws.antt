@@ -13,7 +13,9 @@ use lib.Dec.{eqb}
 use lib.Pow.{high, ones-lt, ones-split, pow-mono, pow-pos}
 use Rattle.arith.proofs.Words.{bit-mod}
 use Rattle.arith.specs.Digits.{bitOf, digit}
-use Rattle.packed.specs.Bits.{bitAt, differ, FirstFrom, Window}
+use Rattle.packed.proofs.RunLaws.{run-bit}
+use Rattle.packed.specs.Bits.{bitAt, differ, FirstFrom}
+use Rattle.packed.specs.Runs.{runOf}
 
 -- ---- in a word
 
@@ -110,11 +112,11 @@ bit-xor a b k =
 abbrev pub Holds : (ℕ → Bool) → ℕ → ℕ → Type 0
 Holds test k word = (j : ℕ) → j < 64 → test (8 * k + j) ≡ bitOf word (63 - j)
 
-pub holds-bits : {xs : List ℕ} {k w : ℕ} → Window xs k 8 w → Holds (bitAt xs) k w
-holds-bits f j h = sym (f .bits j h)
+pub holds-bits : (xs : List ℕ) (k : ℕ) {w : ℕ} → w ≡ runOf xs (8 * k) 64 → Holds (bitAt xs) k w
+holds-bits xs k e j h = sym (ap (λ x. bitOf x (63 - j)) e ∙ run-bit xs (8 * k) 64 j h)
 
-pub holds-differ : {xs ys : List ℕ} {k u v : ℕ} → Window xs k 8 u → Window ys k 8 v → Holds (λ i. differ (bitAt xs i) (bitAt ys i)) k (bitXor u v)
-holds-differ {u = u} {v} f g j h = ap₂ differ (sym (f .bits j h)) (sym (g .bits j h)) ∙ sym (bit-xor u v (63 - j))
+pub holds-differ : (xs ys : List ℕ) (k : ℕ) {u v : ℕ} → u ≡ runOf xs (8 * k) 64 → v ≡ runOf ys (8 * k) 64 → Holds (λ i. differ (bitAt xs i) (bitAt ys i)) k (bitXor u v)
+holds-differ xs ys k {u} {v} e f j h = ap₂ differ (holds-bits xs k e j h) (holds-bits ys k f j h) ∙ sym (bit-xor u v (63 - j))
 
 -- a walk from `from` to `to` has come to i, and none before i passes the test
 pub record Passed (test : ℕ → Bool) (from to i : ℕ) : Type 0 where

@@ -5,4 +5,3 @@ pub mod FirstLaws
 pub mod PairLaws
 pub mod RowLaws
 pub mod RunLaws
-pub mod WindowLaws

@@ -4,11 +4,11 @@ use mathlib.Core.Logic.{_≢_}
 use mathlib.Core.Path.{ap, ap₂, refl, subst, sym, _∙_, _≡_}
 use Prim.Native.Nat.{_*_, _+_, _-_, _/_, _<_, max, min, suc, zero, zero-le, ℕ, _≤_}
 use native.Mathlib.Decide.{decLt, le-ind}
-use native.Mathlib.Nat.{le-of-lt, le-refl, le-trans, max-comm, max-eq-right, min-comm, min-eq-left, mul-le-mul, mul-one, mul-sub, mul-suc, suc-mul}
+use native.Mathlib.Nat.{le-of-lt, le-refl, le-trans, max-comm, max-eq-right, min-comm, min-eq-left, mul-one, mul-sub, mul-suc, suc-mul}
 use native.Mathlib.Numerals.{sub-one}
 use native.Mathlib.Omega.{arith}
 use lib.ListN.{length}
-use Rattle.packed.specs.Pairs.{maxNodes, pairCount, pairIndex, Room}
+use Rattle.packed.specs.Pairs.{pairCount, pairIndex, Room}
 
 square : (n : ℕ) → n * (n - 1) + n ≡ n * n
 square zero = refl
@@ -48,13 +48,9 @@ pub pair-comm : (a b : ℕ) → pairIndex a b ≡ pairIndex b a
 unfolding pairIndex
 pair-comm a b = ap₂ (λ (x y : ℕ). pairCount x + y) (max-comm a b) (min-comm a b)
 
-pub pair-less : (a b : ℕ) → a < b → pairIndex a b ≡ b * (b - 1) / 2 + a
-unfolding pairIndex pairCount
+pub pair-less : (a b : ℕ) → a < b → pairIndex a b ≡ pairCount b + a
+unfolding pairIndex
 pair-less a b h = rw (max-eq-right (le-of-lt h), min-eq-left (le-of-lt h))
-
--- the product of the code is small
-pub product : (b : ℕ) → b < maxNodes → b * (b - 1) ≤ 65025
-product b h = mul-le-mul {n₂ = 255} {m₂ = 255} (omega arith) (omega arith)
 
 -- the bit of a pair is within the bytes
 pub pair-within : (a b n : ℕ) → a ≢ b → pairCount (max a b + 1) ≤ 8 * n → pairIndex a b / 8 < n

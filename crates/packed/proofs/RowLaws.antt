@@ -5,7 +5,7 @@ use mathlib.Core.List.{List}
 use mathlib.Core.Path.{ap, refl, sym, _∙_, _≡_}
 use Prim.Native.Nat.{_*_, _+_, _-_, _/_, _<_, ℕ, _≤_}
 use native.Mathlib.Decide.{le-ind}
-use native.Mathlib.Nat.{le-of-lt, le-refl, le-trans, max-eq-left, max-eq-right, min-eq-left, min-eq-right, mul-le-mul}
+use native.Mathlib.Nat.{le-of-lt, le-refl, max-eq-left, max-eq-right, min-eq-left, min-eq-right, mul-le-mul}
 use native.Mathlib.Numerals.{add-one}
 use native.Mathlib.Omega.{arith}
 use lib.ListN.{length}

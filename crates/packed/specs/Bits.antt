@@ -2,7 +2,7 @@
 use mathlib.Core.Path.{_≡_}
 use mathlib.Core.Bool.{Bool, true, false, not}
 use mathlib.Core.List.{List}
-use Prim.Native.Nat.{ℕ, _+_, _-_, _*_, _/_, _%_, _^_, _≤_, _<_}
+use Prim.Native.Nat.{ℕ, _+_, _-_, _*_, _/_, _%_, _≤_, _<_}
 use lib.ListN.{getD, set}
 use Rattle.arith.specs.Digits.{bitOf, withDigit}
 use Rattle.arith.specs.Sums.{bit, packTo, tabulate}
@@ -26,11 +26,6 @@ bytesFor m = (m + 7) / 8
 -- each element is a byte, as of every lent `&[u8]`
 abbrev pub Bytes : List ℕ → Type 0
 Bytes bytes = (k : ℕ) → getD bytes k 0 < 256
-
--- w is the number whose binary digits are the bits of the m bytes from byte k on, the first bit the highest digit
-pub record Window (bytes : List ℕ) (k m w : ℕ) : Type 0 where
-  pub small : w < 2 ^ (8 * m)
-  pub bits : (j : ℕ) → j < 8 * m → bitOf w (8 * m - 1 - j) ≡ bitAt bytes (8 * k + j)
 
 -- one of the two holds, and not both
 abbrev pub differ : Bool → Bool → Bool

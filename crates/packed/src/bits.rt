@@ -1,9 +1,10 @@
 // Bits packed into a lent slice of bytes, the most significant bit of a byte first.
+use crate::runs::word_at;
 ghost use mathlib.Core.Path.{_≡_};
-ghost use Prim.Native.Nat.{_+_, _-_, _*_, _/_, _≤_, _<_};
+ghost use Prim.Native.Nat.{_-_, _*_, _/_, _≤_, _<_};
 ghost use lib.ListN.{length, replicate};
 ghost use Rattle.arith.specs.Digits.{bitOf};
-ghost use Rattle.packed.specs.Bits.{bitAt, withBit, Window, differ, FirstFrom};
+ghost use Rattle.packed.specs.Bits.{bitAt, withBit, differ, FirstFrom};
 
 // Bit i.
 pub fn get(bits: &[u8], i: usize) -> bool
@@ -41,51 +42,6 @@ fn first_one(word: u64, from: usize) -> usize
     ensures { λ r. ⌜ FirstFrom (λ j. bitOf word (63 - j)) from 64 r ⌝ }
 {
     u64::leading_zeros(word & (18446744073709551615u64 >> from)) as usize
-}
-
-// The 32 bits from byte k on.
-fn quad_at(bits: &[u8], k: usize) -> u64
-    requires { ⌜ k + 4 ≤ length (now bits) ⌝ }
-    ensures { λ r. ⌜ Window (now (bits .entry)) k 4 r ⌝ }
-{
-    (bits[k] as u64) << 24
-        | (bits[k + 1] as u64) << 16
-        | (bits[k + 2] as u64) << 8
-        | (bits[k + 3] as u64)
-}
-
-// The bits of the byte m after byte k, and zeros past the end.
-fn byte_at(bits: &[u8], k: usize, m: usize) -> u64
-    requires { ⌜ k ≤ length (now bits) ⌝ }
-    ensures { λ r. ⌜ Window (now (bits .entry)) (k + m) 1 r ⌝ }
-{
-    if m < bits.len() - k {
-        return bits[k + m] as u64;
-    }
-    0
-}
-
-// The 64 bits from byte k on, one of the last, and zeros past the end.
-fn last_at(bits: &[u8], k: usize) -> u64
-    requires { ⌜ k ≤ length (now bits) ⌝ }
-    ensures { λ r. ⌜ Window (now (bits .entry)) k 8 r ⌝ }
-{
-    let mut word: u64 = 0;
-    for m in 0..8usize {
-        word = word << 8 | byte_at(bits, k, m);
-    }
-    word
-}
-
-// The 64 bits from byte k on, and zeros past the end.
-fn word_at(bits: &[u8], k: usize) -> u64
-    requires { ⌜ k ≤ length (now bits) ⌝ }
-    ensures { λ r. ⌜ Window (now (bits .entry)) k 8 r ⌝ }
-{
-    if bits.len() - k < 8 {
-        return last_at(bits, k);
-    }
-    quad_at(bits, k) << 32 | quad_at(bits, k + 4)
 }
 
 // The first bit from `from` on that is set, and `to` where none before `to` is.

@@ -1,5 +1,6 @@
 // The degrees of all nodes, in one pass over the bits.
 use crate::edges::MAX_NODES;
+use crate::edges::row_start;
 use crate::runs::MAX_RUN;
 use crate::runs::run_of;
 ghost use mathlib.Core.Path.{_≡_};
@@ -26,7 +27,7 @@ fn count_run(edges: &[u8], counts: &mut [u16], b: usize, at: usize, end: usize) 
     ensures { λ r. ⌜ (now (counts .exit) ≡ degreesTo (now (edges .entry)) b end) × (countTo (edge (now (edges .entry)) b) at + r ≡ countTo (edge (now (edges .entry)) b) end) ⌝ }
 {
     let mut own: u16 = 0;
-    let mut run = run_of(edges, (b * b - b) / 2 + at, end - at);
+    let mut run = run_of(edges, row_start(b) + at, end - at);
     while run != 0 {
         let after = 63 - u64::leading_zeros(run) as usize;
         let a = end - 1 - after;

@@ -11,12 +11,20 @@ ghost use Rattle.packed.specs.Edges.{edge, withEdge};
 // The most nodes that a graph may have.
 pub const MAX_NODES: usize = 256;
 
+// Where the row of p starts, the bits of its pairs with the nodes below it, in order: how many pairs p nodes have.
+pub fn row_start(p: usize) -> usize
+    requires { ⌜ p ≤ maxNodes ⌝ }
+    ensures { λ r. ⌜ r ≡ pairCount p ⌝ }
+{
+    (p * p - p) / 2
+}
+
 // The bit of the pair of a and b.
 pub fn index(a: usize, b: usize) -> usize
     requires { ⌜ (a < b) × (b < maxNodes) ⌝ }
     ensures { λ r. ⌜ r ≡ pairIndex a b ⌝ }
 {
-    b * (b - 1) / 2 + a
+    row_start(b) + a
 }
 
 // Whether nodes a and b are linked, in either order. No node is linked to itself.
@@ -45,14 +53,6 @@ pub fn link(edges: &mut [u8], a: usize, b: usize, on: bool)
     if b < a {
         put(edges, index(b, a), on);
     }
-}
-
-// Where the row of p starts: the bits of its pairs with the nodes below it, in order.
-pub fn row_start(p: usize) -> usize
-    requires { ⌜ p ≤ maxNodes ⌝ }
-    ensures { λ r. ⌜ r ≡ pairCount p ⌝ }
-{
-    (p * p - p) / 2
 }
 
 // How many nodes below p are linked to p.

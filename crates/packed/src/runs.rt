@@ -7,36 +7,61 @@ ghost use Rattle.packed.specs.Runs.{runOf, maxRun};
 // The most bits that a run may have: they are within eight bytes wherever they begin.
 pub const MAX_RUN: usize = 56;
 
-// The bits of `count` bytes.
-fn of_bytes(bits: &[u8], at: usize, count: usize) -> u64
-    requires { ⌜ (count ≤ 8) × (at + count ≤ length (now bits)) ⌝ }
-    ensures { λ r. ⌜ r ≡ runOf (now (bits .entry)) (8 * at) (8 * count) ⌝ }
+// The 32 bits from byte k on.
+fn quad_at(bits: &[u8], k: usize) -> u64
+    requires { ⌜ k + 4 ≤ length (now bits) ⌝ }
+    ensures { λ r. ⌜ r ≡ runOf (now (bits .entry)) (8 * k) 32 ⌝ }
 {
-    let mut run: u64 = 0;
-    for k in 0..count {
-        let next = at + k;
-        run = run * 256 + bits[next] as u64;
+    (((bits[k] as u64) << 8 | bits[k + 1] as u64) << 8 | bits[k + 2] as u64) << 8
+        | bits[k + 3] as u64
+}
+
+// The bits of the byte m after byte k, and zeros past the end.
+fn byte_at(bits: &[u8], k: usize, m: usize) -> u64
+    requires { ⌜ k ≤ length (now bits) ⌝ }
+    ensures { λ r. ⌜ r ≡ runOf (now (bits .entry)) (8 * (k + m)) 8 ⌝ }
+{
+    if m < bits.len() - k {
+        return bits[k + m] as u64;
     }
-    run
+    0
 }
 
-// The `count` bits of a run that are before its last `after`.
-fn cut(run: u64, after: usize, count: usize) -> u64
-    requires { ⌜ (after < 64) × (count < 64) ⌝ }
-    ensures { λ r. ⌜ r ≡ run / 2 ^ after % 2 ^ count ⌝ }
+// The 64 bits from byte k on, one of the last, and zeros past the end.
+fn last_at(bits: &[u8], k: usize) -> u64
+    requires { ⌜ k ≤ length (now bits) ⌝ }
+    ensures { λ r. ⌜ r ≡ runOf (now (bits .entry)) (8 * k) 64 ⌝ }
 {
-    (run >> after) % (1u64 << count)
+    let mut word: u64 = 0;
+    for m in 0..8usize {
+        word = word << 8 | byte_at(bits, k, m);
+    }
+    word
 }
 
-// The `count` bits from `from` on.
-pub(crate) fn run_of(bits: &[u8], from: usize, count: usize) -> u64
+// The 64 bits from byte k on, and zeros past the end.
+pub(crate) fn word_at(bits: &[u8], k: usize) -> u64
+    requires { ⌜ k ≤ length (now bits) ⌝ }
+    ensures { λ r. ⌜ r ≡ runOf (now (bits .entry)) (8 * k) 64 ⌝ }
+{
+    if bits.len() - k < 8 {
+        return last_at(bits, k);
+    }
+    quad_at(bits, k) << 32 | quad_at(bits, k + 4)
+}
+
+// The `count` bits of a word that are before its last `after`.
+fn cut(word: u64, after: usize, count: usize) -> u64
+    requires { ⌜ (after < 64) × (count < 64) ⌝ }
+    ensures { λ r. ⌜ r ≡ word / 2 ^ after % 2 ^ count ⌝ }
+{
+    (word >> after) % (1u64 << count)
+}
+
+// The number of the `count` bits from `from` on.
+pub fn run_of(bits: &[u8], from: usize, count: usize) -> u64
     requires { ⌜ (0 < count) × (count ≤ maxRun) × (from + count ≤ 8 * length (now bits)) ⌝ }
     ensures { λ r. ⌜ r ≡ runOf (now (bits .entry)) from count ⌝ }
 {
-    let at = from / 8;
-    let left = bits.len() - at;
-    if left < 8 {
-        return cut(of_bytes(bits, at, left), 8 * left - from % 8 - count, count);
-    }
-    cut(of_bytes(bits, at, 8), 64 - from % 8 - count, count)
+    cut(word_at(bits, from / 8), 64 - from % 8 - count, count)
 }

@@ -1,21 +1,13 @@
 -- How a list that the port answers ends. Assumes nothing.
 use mathlib.Core.List.{List}
 use mathlib.Core.Path.{ap, _∙_, _≡_}
-use Prim.Native.Nat.{_-_, _^_, ℕ}
-use borrow.Author.Tests.{ne-eqb}
-use Rattle.port.specs.Port.{answered, answeredEntries, oneNumber, ported, portedEntries, portEntries, portList}
+use Prim.Native.Nat.{ℕ}
+use Rattle.port.specs.Port.{answered, answeredEntries, ported, portedEntries, portEntries, portList}
+use Rattle.state.specs.Refusal.{oneNumber}
 use Rattle.state.specs.State.{State}
 use Rattle.topk.specs.declared.entries.Entry.{Entry}
 use Rattle.topk.specs.List.{listCall, Listed}
 use Rattle.listing.specs.Records.{entriesCall, Recorded}
-
-pub number-refused : (refusal recomputed : ℕ) → (refusal ≡ 0 → ⊥) → 2 ^ 64 - refusal ≡ oneNumber refusal recomputed
-unfolding oneNumber
-number-refused refusal recomputed d = rw (ne-eqb refusal 0 d)
-
-pub number-accepted : (refusal recomputed : ℕ) → refusal ≡ 0 → recomputed ≡ oneNumber refusal recomputed
-unfolding oneNumber
-number-accepted refusal recomputed z = rw z
 
 pub port-list : (s : State) (entries scratch : List ℕ) {l : Listed} {r : ℕ} → l ≡ listCall s entries scratch → r ≡ oneNumber (l .refusal) (l .recomputed)
     → ported r (l .after) (l .entries) (l .scratch) ≡ portList s entries scratch

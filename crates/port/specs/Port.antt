@@ -1,16 +1,11 @@
 -- The list as the port answers it: one number, and everything lent. Assumes nothing.
-use mathlib.Core.Bool.{cond}
 use mathlib.Core.List.{List}
-use Prim.Native.Nat.{ℕ, _-_, _^_}
-use lib.Dec.{eqb}
+use Prim.Native.Nat.{ℕ}
+use Rattle.state.specs.Refusal.{oneNumber}
 use Rattle.state.specs.State.{State}
 use Rattle.topk.specs.declared.entries.Entry.{Entry}
 use Rattle.topk.specs.List.{Listed, listCall}
 use Rattle.listing.specs.Records.{Recorded, entriesCall}
-
--- how many posts were worked out, or 2 ^ 64 less the refusal number
-unfoldable pub oneNumber : ℕ → ℕ → ℕ
-oneNumber refusal recomputed = cond (eqb refusal 0) recomputed (2 ^ 64 - refusal)
 
 -- ---- over plain numbers
 

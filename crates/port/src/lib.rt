@@ -3,14 +3,16 @@ use calls::snapshot::load;
 use calls::snapshot::write;
 use listing::records::list_entries;
 use merge::reconcile::reconcile;
+use state::refusal::one_number;
 use topk::entries::Entry;
 use topk::list::Answer;
 use topk::list::list;
 ghost use mathlib.Core.Path.{_≡_};
 ghost use Rattle.merge.specs.Reconcile.{reconcileCall};
 ghost use Rattle.state.specs.Outcome.{left, state};
+ghost use Rattle.state.specs.Refusal.{oneNumber};
 ghost use Rattle.calls.specs.Snapshot.{loadCall, written, writeCall};
-ghost use Rattle.port.specs.Port.{oneNumber, ported, portList, portedEntries, portEntries};
+ghost use Rattle.port.specs.Port.{ported, portList, portedEntries, portEntries};
 
 // Loads a sheet.
 #[no_mangle]
@@ -39,14 +41,10 @@ pub extern "C" fn fj_port_write(
 }
 
 // A list's answer as one number: how many posts were worked out, or 2^64 less the refusal number.
-fn one_number(answer: Answer) -> u64
+fn number_of(answer: Answer) -> u64
     ensures { λ r. ⌜ r ≡ oneNumber (answer .refusal) (answer .recomputed) ⌝ }
 {
-    let refusal = answer.refusal;
-    if refusal != 0 {
-        return u64::MAX - (refusal - 1);
-    }
-    answer.recomputed
+    one_number(answer.refusal, answer.recomputed)
 }
 
 // The list over plain numbers.
@@ -60,7 +58,7 @@ pub extern "C" fn fj_port_list(
 ) -> u64
     ensures { λ r. ⌜ ported r (state (now (links .entry)) (now (figures .exit)) (now (marks .exit))) (now (entries .exit)) (now (scratch .exit)) ≡ portList (state (now (links .entry)) (now (figures .entry)) (now (marks .entry))) (now (entries .entry)) (now (scratch .entry)) ⌝ }
 {
-    one_number(list(links, figures, marks, entries, scratch))
+    number_of(list(links, figures, marks, entries, scratch))
 }
 
 // The list over entries as records.
@@ -74,7 +72,7 @@ pub extern "C" fn fj_port_list_entries(
 ) -> u64
     ensures { λ r. ⌜ portedEntries r (state (now (links .entry)) (now (figures .exit)) (now (marks .exit))) (now (entries .exit)) (now (scratch .exit)) ≡ portEntries (state (now (links .entry)) (now (figures .entry)) (now (marks .entry))) (now (entries .entry)) (now (scratch .entry)) ⌝ }
 {
-    one_number(list_entries(links, figures, marks, entries, scratch))
+    number_of(list_entries(links, figures, marks, entries, scratch))
 }
 
 // Brings another editor's changes into a board.

@@ -4,6 +4,7 @@ use crate::space;
 use calls::clear::clear;
 use edits::edit::add;
 use edits::edit::remove;
+use packed::edges::MAX_NODES;
 use script::reader::read;
 use script::step::FIRST_RECORD;
 use script::step::Item;
@@ -28,7 +29,7 @@ fn do_remove(edges: &mut [u8], figures: &mut [u64], marks: &mut [u8], a: usize, 
 }
 
 // Prints the first k entries, each a node and its grains.
-fn print_entries(entries: &[u64; 512], k: usize)
+fn print_entries(entries: &[u64; 2 * MAX_NODES], k: usize)
     requires { ⌜ k ≤ maxNodes ⌝ }
 {
     for i in 0..k {

@@ -1,45 +1,54 @@
 // The arrays that the program lends, all 0. The contracts give only the lengths, which lending an array as a slice needs.
+use packed::edges::MAX_NODES;
+use script::step::MAX_BYTES;
+use state::sizes::MAX_EDGE_BYTES;
+use state::sizes::MAX_MARK_BYTES;
 ghost use mathlib.Core.Path.{_≡_};
+ghost use Prim.Native.Nat.{_+_, _*_};
 ghost use lib.ListN.{length};
+ghost use Rattle.packed.specs.Pairs.{maxNodes};
+ghost use Rattle.script.specs.Limits.{maxBytes};
+ghost use Rattle.state.specs.Sizes.{maxEdgeBytes};
+ghost use Rattle.state.specs.Marks.{markBytes};
 
 // The most bytes of a script, and one more to tell a longer input.
-pub(crate) fn input() -> [u8; 65537]
-    ensures { λ r. ⌜ 65537 ≡ length r ⌝ }
+pub(crate) fn input() -> [u8; MAX_BYTES + 1]
+    ensures { λ r. ⌜ maxBytes + 1 ≡ length r ⌝ }
 {
-    [0; 65537]
+    [0; MAX_BYTES + 1]
 }
 
-// The edges of 256 nodes.
-pub(crate) fn edges() -> [u8; 4080]
-    ensures { λ r. ⌜ 4080 ≡ length r ⌝ }
+// The edges of the most nodes.
+pub(crate) fn edges() -> [u8; MAX_EDGE_BYTES]
+    ensures { λ r. ⌜ maxEdgeBytes ≡ length r ⌝ }
 {
-    [0; 4080]
+    [0; MAX_EDGE_BYTES]
 }
 
-// The figures of 256 nodes.
-pub(crate) fn figures() -> [u64; 256]
-    ensures { λ r. ⌜ 256 ≡ length r ⌝ }
+// Their figures.
+pub(crate) fn figures() -> [u64; MAX_NODES]
+    ensures { λ r. ⌜ maxNodes ≡ length r ⌝ }
 {
-    [0; 256]
+    [0; MAX_NODES]
 }
 
-// The marks of 256 nodes.
-pub(crate) fn marks() -> [u8; 32]
-    ensures { λ r. ⌜ 32 ≡ length r ⌝ }
+// Their marks.
+pub(crate) fn marks() -> [u8; MAX_MARK_BYTES]
+    ensures { λ r. ⌜ markBytes maxNodes ≡ length r ⌝ }
 {
-    [0; 32]
+    [0; MAX_MARK_BYTES]
 }
 
-// 256 entries of two numbers.
-pub(crate) fn entries() -> [u64; 512]
-    ensures { λ r. ⌜ 512 ≡ length r ⌝ }
+// An entry of two numbers for each.
+pub(crate) fn entries() -> [u64; 2 * MAX_NODES]
+    ensures { λ r. ⌜ 2 * maxNodes ≡ length r ⌝ }
 {
-    [0; 512]
+    [0; 2 * MAX_NODES]
 }
 
-// A byte for each of 256 nodes.
-pub(crate) fn scratch() -> [u8; 256]
-    ensures { λ r. ⌜ 256 ≡ length r ⌝ }
+// A byte for each.
+pub(crate) fn scratch() -> [u8; MAX_NODES]
+    ensures { λ r. ⌜ maxNodes ≡ length r ⌝ }
 {
-    [0; 256]
+    [0; MAX_NODES]
 }

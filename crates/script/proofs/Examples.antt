@@ -6,7 +6,7 @@ use denote.Ref.{RefT, now}
 use Rattle.arith.specs.Digits.{bitOf, digit}
 use Rattle.arith.specs.Sums.{anyTo}
 use Rattle.packed.specs.Bits.{bitAt}
-use Rattle.script.specs.Field.{fieldAt}
+use Rattle.packed.specs.Runs.{runOf}
 use Rattle.script.specs.Moves.{after, start, yields}
 use Rattle.script.specs.Record.{bitsLeft, endsAt, itemAt, pastItem, stepAt}
 use Rattle.script.specs.declared.reader.Reader.{Reader}
@@ -27,7 +27,7 @@ abbrev by : Item → ℕ → Step
 by item at = record { item = item; at = at }
 
 pub listing-steps : steps ≡ (by (Add 0 1) 26 ∷ by (Add 0 2) 44 ∷ by (Add 0 3) 62 ∷ by (ListFirst 2) 80 ∷ by End 80 ∷ by Malformed 98 ∷ [])
-unfolding anyTo bitAt bitOf bitsLeft digit endsAt fieldAt itemAt pastItem stepAt
+unfolding anyTo bitAt bitOf bitsLeft digit endsAt itemAt pastItem runOf stepAt
 listing-steps = refl
 
 -- what a reader yields, time after time
@@ -37,5 +37,5 @@ run (suc k) r = yields r ∷ run k (after r)
 
 -- a reader over the listing, from its start; at the end it stays
 pub listing-read : (lent : RefT (List ℕ)) → now lent ≡ listing → run 6 (start lent) ≡ (Add 0 1 ∷ Add 0 2 ∷ Add 0 3 ∷ ListFirst 2 ∷ End ∷ End ∷ [])
-unfolding anyTo bitAt bitOf bitsLeft digit endsAt fieldAt itemAt pastItem stepAt
+unfolding anyTo bitAt bitOf bitsLeft digit endsAt itemAt pastItem runOf stepAt
 listing-read lent e = ap (λ (s : List ℕ). run 6 (start (record { ptr = lent .ptr; name = lent .name; now = s }))) e

@@ -1,4 +1,3 @@
 pub mod Examples
-pub mod FieldLaws
 pub mod ReadingLaws
 pub mod RecordLaws

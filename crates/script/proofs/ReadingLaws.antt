@@ -10,7 +10,7 @@ use borrow.Author.Tests.{eqb-true, le-leb, le-ltb, lt-leb, lt-ltb}
 use lib.Dec.{eqb}
 use lib.ListN.{length}
 use Rattle.arith.proofs.Tests.{and-true, test}
-use Rattle.script.proofs.FieldLaws.{field-lt, field-small}
+use Rattle.packed.proofs.RunLaws.{run-lt}
 use Rattle.script.proofs.RecordLaws.{item-few, left-room}
 use Rattle.script.specs.Limits.{maxBytes, recordBits}
 use Rattle.script.specs.Reading.{Reading, readingAt, readingOf, wellFormed}
@@ -53,7 +53,7 @@ reading-is script at = elim (decLt (bitsLeft script at) recordBits) [
   | yes h ↦ rw (lt-ltb (bitsLeft script at) recordBits h, lt-leb recordBits (bitsLeft script at) h)
   | no h ↦ let l : recordBits ≤ bitsLeft script at = omega arith in
       rw (le-ltb (bitsLeft script at) recordBits l, le-leb recordBits (bitsLeft script at) l)
-      (kinds (kindAt script at) (aAt script at) (bAt script at) at (endsAt script at) (field-lt script at 2) (ends-zero script at))
+      (kinds (kindAt script at) (aAt script at) (bAt script at) at (endsAt script at) (run-lt script at 2) (ends-zero script at))
 ]
 
 -- a step from its parts
@@ -110,7 +110,7 @@ module _ (script : List ℕ) (at : ℕ) where
   reading-a : readingAt script at .a < 256
   unfolding readingAt
   reading-a = elim (test (wellFormed script at)) [
-    | inl t ↦ rw t (field-small script (at + 2) 8 (omega arith))
+    | inl t ↦ rw t (run-lt script (at + 2) 8)
     | inr t ↦ rw t (omega arith)
   ]
 

@@ -1,5 +1,5 @@
 -- What the reader's tests show of what stands at a position. Assumes nothing.
-use mathlib.Core.Bool.{Bool, cond, false, true}
+use mathlib.Core.Bool.{Bool, and-false, cond, false, true}
 use mathlib.Core.List.{List}
 use mathlib.Core.Path.{ap, sym, _∙_, _≡_}
 use Prim.Native.Nat.{_*_, _+_, _-_, _<_, ℕ, _≤_}
@@ -8,8 +8,8 @@ use native.Mathlib.Omega.{arith}
 use borrow.Author.Tests.{eq-eqb, le-ltb, lt-ltb, ne-eqb}
 use lib.Dec.{eqb}
 use lib.ListN.{length}
-use Rattle.script.proofs.FieldLaws.{field-zero}
-use Rattle.script.specs.Field.{fieldAt}
+use Rattle.packed.proofs.RunLaws.{run-cat-zero, run-none-set}
+use Rattle.packed.specs.Runs.{runOf}
 use Rattle.script.specs.Limits.{maxBytes, recordBits}
 use Rattle.script.specs.Record.{aAt, bAt, bitsLeft, endsAt, itemAt, kindAt}
 use Rattle.script.specs.declared.step.Item.the-variants.{Add, End, ListFirst, Malformed, Remove}
@@ -42,24 +42,20 @@ module _ (script : List ℕ) (at : ℕ) where
 
   -- ---- the end
 
-  module _ {left a b : ℕ} (el : left ≡ bitsLeft script at) (ea : a ≡ aAt script at) (eb : b ≡ bAt script at) where
-    pub ends-a : (a ≡ 0 → ⊥) → false ≡ endsAt script at
-    unfolding endsAt
-    ends-a da = rw (← ea, ne-eqb a 0 da)
+  pub ends-more : {left : ℕ} → left ≡ bitsLeft script at → 8 ≤ left - recordBits → false ≡ endsAt script at
+  unfolding endsAt
+  ends-more {left} e h = rw (← e, le-ltb (left - recordBits) 8 h, and-false, and-false)
 
-    pub ends-b : a ≡ 0 → (b ≡ 0 → ⊥) → false ≡ endsAt script at
-    unfolding endsAt
-    ends-b za db = rw (← ea, ← eb, eq-eqb a 0 za, ne-eqb b 0 db)
-
-    pub ends-more : a ≡ 0 → b ≡ 0 → 8 ≤ left - recordBits → false ≡ endsAt script at
-    unfolding endsAt
-    ends-more za zb h = rw (← ea, ← eb, ← el, eq-eqb a 0 za, eq-eqb b 0 zb, le-ltb (left - recordBits) 8 h)
-
-    pub ends-rest : (rest : ℕ) → a ≡ 0 → b ≡ 0 → left - recordBits < 8 → rest ≡ fieldAt script (at + recordBits) (left - recordBits) → eqb rest 0 ≡ endsAt script at
-    unfolding endsAt
-    ends-rest rest za zb h q =
-        rw (← ea, ← eb, ← el, eq-eqb a 0 za, eq-eqb b 0 zb, lt-ltb (left - recordBits) 8 h)
-        (ap (λ (x : ℕ). eqb x 0) q ∙ field-zero script (at + recordBits) (left - recordBits))
+  -- a, b and what follows are one run
+  pub ends-run : {left : ℕ} (run : ℕ) → left ≡ bitsLeft script at → recordBits ≤ left → left - recordBits < 8 → run ≡ runOf script (at + 2) (left - 2)
+      → eqb run 0 ≡ endsAt script at
+  unfolding endsAt
+  ends-run {left} run e h l q =
+      let rest : ℕ = left - recordBits in
+      let all : left - 2 ≡ 8 + (8 + rest) = omega arith in
+      let b-at : at + 2 + 8 ≡ at + 10 = omega arith in
+      let rest-at : at + 10 + 8 ≡ at + recordBits = omega arith in
+      rw (← e, lt-ltb rest 8 l, q, all, run-cat-zero script (at + 2) 8 (8 + rest), b-at, run-cat-zero script (at + 10) 8 rest, rest-at, run-none-set script (at + recordBits) rest)
 
   -- ---- the records
 

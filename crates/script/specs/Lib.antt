@@ -1,5 +1,4 @@
 -- What the contracts of `script` cite.
-pub mod Field
 pub mod Limits
 pub mod Moves
 pub mod Reading

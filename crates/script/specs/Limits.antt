@@ -9,10 +9,6 @@ maxBytes = 65536
 abbrev pub recordBits : ℕ
 recordBits = 18
 
--- a number in a record has at most 8
-abbrev pub maxWidth : ℕ
-maxWidth = 8
-
 -- the first byte is n - 1; then the records
 abbrev pub firstRecord : ℕ
 firstRecord = 8

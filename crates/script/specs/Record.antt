@@ -7,7 +7,7 @@ use lib.Dec.{eqb, ltb}
 use lib.ListN.{length}
 use Rattle.arith.specs.Sums.{anyTo}
 use Rattle.packed.specs.Bits.{bitAt}
-use Rattle.script.specs.Field.{fieldAt}
+use Rattle.packed.specs.Runs.{runOf}
 use Rattle.script.specs.Limits.{maxBytes, recordBits}
 use Rattle.script.specs.declared.step.Item.{Item}
 use Rattle.script.specs.declared.step.Item.the-variants.{Add, Remove, ListFirst, End, Malformed}
@@ -15,13 +15,13 @@ use Rattle.script.specs.declared.step.Step.{Step}
 
 -- records of 18 bits, packed, most significant first: kind (2 bits), a (8), b (8)
 abbrev pub kindAt : List ℕ → ℕ → ℕ
-kindAt script at = fieldAt script at 2
+kindAt script at = runOf script at 2
 
 abbrev pub aAt : List ℕ → ℕ → ℕ
-aAt script at = fieldAt script (at + 2) 8
+aAt script at = runOf script (at + 2) 8
 
 abbrev pub bAt : List ℕ → ℕ → ℕ
-bAt script at = fieldAt script (at + 10) 8
+bAt script at = runOf script (at + 10) 8
 
 -- the bits from a position to the end of input; what is longer than a script has none to read
 unfoldable pub bitsLeft : List ℕ → ℕ → ℕ

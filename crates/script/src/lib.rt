@@ -1,4 +1,3 @@
 // The script format: read by slice and bit number, and by a reader over a lent script.
-pub mod field;
 pub mod reader;
 pub mod step;

@@ -1,11 +1,11 @@
 // What stands at a bit's position of a script. The slice is the whole script with its first byte, which is n - 1, and a position counts the bits
 // from the start of the slice, so that the first record is at FIRST_RECORD.
-use crate::field::field;
+use packed::runs::run_of;
 ghost use mathlib.Core.Path.{_≡_};
 ghost use Prim.Native.Nat.{_<_, _≤_, _^_};
 ghost use Rattle.script.specs.Limits.{recordBits};
 ghost use Rattle.script.specs.Reading.{readingAt, readingOf};
-ghost use Rattle.script.specs.Record.{aAt, bAt, bitsLeft, endsAt, itemAt, pastItem, stepAt};
+ghost use Rattle.script.specs.Record.{bitsLeft, endsAt, itemAt, pastItem, stepAt};
 
 // The most bytes of a script.
 pub const MAX_BYTES: usize = 65536;
@@ -49,22 +49,15 @@ fn bits_left(script: &[u8], at: usize) -> usize
     bits - at
 }
 
-// Whether a record of kind 0 with these a and b ends the script: both are 0, and fewer than 8 bits follow, all 0.
-fn ends(script: &[u8], at: usize, left: usize, a: usize, b: usize) -> bool
-    requires { ⌜ (left ≡ bitsLeft (now script) at) × (recordBits ≤ left) × (a ≡ aAt (now script) at) × (b ≡ bAt (now script) at) ⌝ }
+// Whether a record of kind 0 ends the script: fewer than 8 bits follow, and its a and b and these are all 0.
+fn ends(script: &[u8], at: usize, left: usize) -> bool
+    requires { ⌜ (left ≡ bitsLeft (now script) at) × (recordBits ≤ left) ⌝ }
     ensures { λ r. ⌜ r ≡ endsAt (now (script .entry)) at ⌝ }
 {
-    if a != 0 {
+    if 8 <= left - RECORD_BITS {
         return false;
     }
-    if b != 0 {
-        return false;
-    }
-    let rest = left - RECORD_BITS;
-    if 8 <= rest {
-        return false;
-    }
-    field(script, at + RECORD_BITS, rest) == 0
+    run_of(script, at + 2, left - 2) == 0
 }
 
 // What stands at position `at`.
@@ -75,9 +68,9 @@ fn item_at(script: &[u8], at: usize) -> Item
     if left < RECORD_BITS {
         return Item::Malformed;
     }
-    let kind = field(script, at, 2);
-    let a = field(script, at + 2, 8);
-    let b = field(script, at + 10, 8);
+    let kind = run_of(script, at, 2);
+    let a = run_of(script, at + 2, 8) as usize;
+    let b = run_of(script, at + 10, 8) as usize;
     if kind == 1 {
         return Item::Add { a, b };
     }
@@ -91,7 +84,7 @@ fn item_at(script: &[u8], at: usize) -> Item
         }
         return Item::ListFirst { k };
     }
-    if ends(script, at, left, a, b) {
+    if ends(script, at, left) {
         return Item::End;
     }
     Item::Malformed

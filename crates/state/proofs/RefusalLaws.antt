@@ -3,7 +3,7 @@ use mathlib.Core.Bool.{Bool, false, true}
 use mathlib.Core.List.{_++_, [], List, _∷_}
 use mathlib.Core.Logic.{inl, inr}
 use mathlib.Core.Path.{refl, sym, _∙_, _≡_}
-use Prim.Native.Nat.{_<_, ℕ, _≤_}
+use Prim.Native.Nat.{_-_, _<_, _^_, ℕ, _≤_}
 use native.Mathlib.Decide.{decLt, ℕ-discrete}
 use native.Mathlib.Omega.{arith}
 use borrow.Author.Tests.{eq-eqb, le-leb, le-ltb, lt-leb, lt-ltb, ne-eqb}
@@ -13,7 +13,7 @@ use Rattle.ego.specs.Graph.{Graph}
 use Rattle.packed.specs.Pairs.{maxNodes, Room}
 use Rattle.state.specs.Marks.{markBytes}
 use Rattle.state.specs.Outcome.{edgeLengths, stateLengths}
-use Rattle.state.specs.Refusal.{bufferLength, Condition, crowdedAfter, crowdedBefore, edgeAbsent, edgePresent, listLength, nodeCount, nodeNumber, otherCount, refusal, sameNodes, scratchLength, snapshotNodes, tooMany}
+use Rattle.state.specs.Refusal.{bufferLength, Condition, crowdedAfter, crowdedBefore, edgeAbsent, edgePresent, listLength, nodeCount, nodeNumber, oneNumber, otherCount, refusal, sameNodes, scratchLength, snapshotNodes, tooMany}
 use Rattle.state.specs.Sizes.{edgeBytes}
 
 -- ---- lists of conditions
@@ -180,3 +180,13 @@ fitted-by {n} {edges} {marks} e z =
 pub fitted-append : (n edges marks : ℕ) (cs : List Condition) → Fitted n edges marks → refusal (stateLengths n edges marks ++ cs) ≡ refusal cs
 fitted-append n edges marks cs f =
     sized-append n edges (bufferLength (markBytes n) marks ∷ cs) (f .sizes) ∙ passed-length cs (markBytes n) marks (f .marksFit)
+
+-- ---- as one number
+
+pub number-refused : (refusal value : ℕ) → (refusal ≡ 0 → ⊥) → 2 ^ 64 - refusal ≡ oneNumber refusal value
+unfolding oneNumber
+number-refused refusal value d = rw (ne-eqb refusal 0 d)
+
+pub number-accepted : (refusal value : ℕ) → refusal ≡ 0 → value ≡ oneNumber refusal value
+unfolding oneNumber
+number-accepted refusal value z = rw z

@@ -1,7 +1,7 @@
 -- The conditions under which a call turns back, in 01's order and with its numbers. Assumes nothing.
 use mathlib.Core.Bool.{Bool, true, not, cond, _&&_, _||_}
 use mathlib.Core.List.{List, [], _∷_}
-use Prim.Native.Nat.{ℕ, _+_, _*_}
+use Prim.Native.Nat.{ℕ, _+_, _-_, _*_, _^_}
 use lib.Dec.{eqb, ltb, leb}
 use lib.ListN.{length, getD, drop}
 use Rattle.arith.specs.Sums.{anyTo}
@@ -19,6 +19,10 @@ Condition = ℕ × Bool
 unfoldable pub refusal : List Condition → ℕ
 refusal [] = 0
 refusal (c ∷ cs) = cond (c .1) (c .0) (refusal cs)
+
+-- the refusal number and the number beside it as one: that number, or 2 ^ 64 less the refusal number
+unfoldable pub oneNumber : ℕ → ℕ → ℕ
+oneNumber refusal value = cond (eqb refusal 0) value (2 ^ 64 - refusal)
 
 -- 1. n is 0 or above 256.
 unfoldable pub nodeCount : ℕ → Condition

@@ -11,6 +11,9 @@ edgeBytes n = bytesFor (pairCount n)
 abbrev pub snapshotBytes : ℕ → ℕ
 snapshotBytes n = 1 + edgeBytes n
 
--- the longest
+-- the most, of 256 nodes
+abbrev pub maxEdgeBytes : ℕ
+maxEdgeBytes = 4080
+
 abbrev pub maxSnapshot : ℕ
-maxSnapshot = 4081
+maxSnapshot = 1 + maxEdgeBytes

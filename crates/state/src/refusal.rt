@@ -1,4 +1,6 @@
 // The refusal numbers, in the order in which a call tests what they stand for. A call that is accepted answers 0.
+ghost use mathlib.Core.Path.{_≡_};
+ghost use Rattle.state.specs.Refusal.{oneNumber};
 
 // The number of nodes is 0 or above MAX_NODES.
 pub const NODE_COUNT: u64 = 1;
@@ -35,3 +37,13 @@ pub const CROWDED_BEFORE: u64 = 11;
 
 // After the call a node would have more than LIMIT edges.
 pub const CROWDED_AFTER: u64 = 12;
+
+// The answer to C as one number: the value beside an acceptance, or 2^64 less the refusal number.
+pub fn one_number(refusal: u64, value: u64) -> u64
+    ensures { λ r. ⌜ r ≡ oneNumber refusal value ⌝ }
+{
+    if refusal != 0 {
+        return u64::MAX - (refusal - 1);
+    }
+    value
+}

@@ -2,20 +2,28 @@
 use crate::refusal::LENGTH;
 use crate::refusal::NODE_COUNT;
 use packed::edges::MAX_NODES;
+use packed::edges::row_start;
 ghost use mathlib.Core.Path.{_≡_};
-ghost use Prim.Native.Nat.{_≤_, _<_};
+ghost use Prim.Native.Nat.{_≤_};
 ghost use Rattle.packed.specs.Pairs.{maxNodes};
 ghost use Rattle.state.specs.Sizes.{edgeBytes};
 ghost use Rattle.state.specs.Marks.{markBytes};
 ghost use Rattle.state.specs.Refusal.{refusal};
 ghost use Rattle.state.specs.Outcome.{edgeLengths, stateLengths};
 
+// The bytes of the edges, the marks and the snapshot of MAX_NODES nodes.
+pub const MAX_EDGE_BYTES: usize = 4080;
+
+pub const MAX_MARK_BYTES: usize = 32;
+
+pub const MAX_SNAPSHOT: usize = 1 + MAX_EDGE_BYTES;
+
 // The bytes that hold the edges of n nodes.
 pub fn edge_bytes(n: usize) -> usize
-    requires { ⌜ (0 < n) × (n ≤ maxNodes) ⌝ }
+    requires { ⌜ n ≤ maxNodes ⌝ }
     ensures { λ r. ⌜ r ≡ edgeBytes n ⌝ }
 {
-    (n * (n - 1) / 2 + 7) / 8
+    (row_start(n) + 7) / 8
 }
 
 // The bytes that hold the marks of n nodes.

@@ -9,8 +9,8 @@ use Rattle.port.proofs.fj_port_list.Tie as tie
 list-requires : tie.Need-list-requires
 list-requires c κs = search needs
 
-one-number-requires : tie.Need-one-number-requires
-one-number-requires c κs = search needs
+number-of-requires : tie.Need-number-of-requires
+number-of-requires c κs = search needs
 
 same-length : tie.Need-same-length
 same-length c = search needs
@@ -28,15 +28,15 @@ returns : tie.Need-returns
 returns c =
     let at-list = c .before .before .before .before .before .before .before .before .before in
     let s = at-list .before .before .before .before .before .before .before .before .before .before in
-    let s = s .args in
-    port-list (state (now (s .links)) (now (s .figures)) (now (s .marks))) (now (s .entries)) (now (s .scratch)) (at-list .list .ensures) (c .one-number .ensures)
+    let a = s .args in
+    port-list (state (now (a .links)) (now (a .figures)) (now (a .marks))) (now (a .entries)) (now (a .scratch)) (at-list .list .ensures) (c .number-of .ensures)
 
 pub fj-port-list-spec : {M : Type 1} → statement M
 fj-port-list-spec =
     tie.close
     (tie.spec
     list-requires
-    one-number-requires
+    number-of-requires
     same-length
     same-length-2
     same-length-3

@@ -1,5 +1,5 @@
 -- `port::fj_port_list_entries` meets its contract: a walk of its MIR, by hand, with two calls and no branch. All that is lent is given up to `list_entries` for good, but for a copy of the links, and what
--- that says of the last values is what is said here; `one_number` makes a number of the answer. Assumes nothing.
+-- that says of the last values is what is said here; `number_of` makes a number of the answer. Assumes nothing.
 use mathlib.Core.Path.{_≡_, refl, ap, subst}
 use Prim.Native.Nat.{ℕ}
 use mathlib.Core.List.{List, [], _∷_}
@@ -38,6 +38,7 @@ use denote.Triple.Table.{entered, cited}
 use denote.Triple.Walked.{says, Stays, gave-slice, stay-none-slice, walkOf, goes-gave-slice, goes-none-slice, Walks, ends-at, walked, walk-meets}
 use denote.Exit.{yes}
 use Rattle.state.specs.Outcome.{state}
+use Rattle.state.specs.Refusal.{oneNumber}
 use Rattle.listing.specs.Records.{entriesCall, recording}
 use Rattle.topk.specs.declared.entries.Entry.{Entry}
 use Rattle.topk.specs.declared.list.Answer.{Answer}
@@ -48,12 +49,11 @@ use Rattle.listing.proofs.records.list_entries as callee
 use Rattle.listing.proofs.records.list_entries.Symbol as callee-def
 use Rattle.listing.proofs.records.list_entries.Symbol.{name as #listing·list-entries}
 use Rattle.listing.proofs.records.list_entries.Met as callee-thm
-use Rattle.port.specs.Port.{oneNumber}
 use Rattle.port.proofs.PortLaws.{port-entries}
-use Rattle.port.proofs.one_number as one
-use Rattle.port.proofs.one_number.Symbol as one-def
-use Rattle.port.proofs.one_number.Symbol.{name as #port·one-number}
-use Rattle.port.proofs.one_number.Met as one-thm
+use Rattle.port.proofs.number_of as one
+use Rattle.port.proofs.number_of.Symbol as one-def
+use Rattle.port.proofs.number_of.Symbol.{name as #port·number-of}
+use Rattle.port.proofs.number_of.Met as one-thm
 use Rattle.port.proofs.fj_port_list_entries.Key.{name as #port·fj-port-list-entries}
 use Rattle.port.proofs.fj_port_list_entries as port
 use Rattle.port.proofs.fj_port_list_entries.Statement as stated
@@ -150,7 +150,7 @@ module _ {M : Type 1} (𝓤 : URA M) (H : Heap 𝓤) (A : Atoms 𝓤) (W : Given
       -- [the links; the last figures; the last marks; the last entries; the last scratch; the number]
       nothing ! $ move ! (5 ∷ 0 ∷ []) $ fjoin ! $ move ! (4 ∷ 0 ∷ []) $ fjoin ! $ move ! (3 ∷ 0 ∷ []) $ fjoin ! $ move ! (2 ∷ 0 ∷ []) $ fjoin ! $ move ! (1 ∷ 0 ∷ []) $ fjoin ! $ done !
 
-  walk : (𝓣 : Tables 𝓤 H) → Triple 𝓤 (𝓣 .C #listing·list-entries) (Lister 𝓤 H A mem run) → Triple 𝓤 (𝓣 .C #port·one-number) (One 𝓤 H A mem run)
+  walk : (𝓣 : Tables 𝓤 H) → Triple 𝓤 (𝓣 .C #listing·list-entries) (Lister 𝓤 H A mem run) → Triple 𝓤 (𝓣 .C #port·number-of) (One 𝓤 H A mem run)
       → Room u8 (length (x₀ .now)) → Room u64 (length (x₁ .now)) → Room u8 (length (x₂ .now)) → Room R (length (x₃ .now)) → Room u8 (length (x₄ .now))
       → ent 𝓤 (onEntry 𝓤 H A port.signature (κ₀, (κ₁, (κ₂, (κ₃, (κ₄, tt))))) (q₀, (q₁, (q₂, (q₃, (q₄, tt))))) a vals) (WpFn 𝓤 H (𝓣 .C) (𝓣 .Λ) code.function (v x₀ ∷ v x₁ ∷ v x₂ ∷ v₃ ∷ v x₄ ∷ []) Post)
   walk 𝓣 known-list known-one g₀ g₁ g₂ g₃ g₄ =
@@ -197,7 +197,7 @@ module _ {M : Type 1} (𝓤 : URA M) (H : Heap 𝓤) (A : Atoms 𝓤) (W : Given
       keep ! (2 ∷ 8 ∷ 7 ∷ 6 ∷ 5 ∷ 3 ∷ 0 ∷ []) $ by ! (exits r m w (zs .1 .0) (zs .1 .1 .0) (zs .1 .1 .1 .0) (zs .1 .1 .1 .1 .0) e₁ e₂ e₃ e₄ G e)))))))))))))))))))))))))))))
 
 module _ {M : Type 1} (𝓤 : URA M) (H : Heap 𝓤) (A : Atoms 𝓤) (W : Given 𝓤 H A) (mem : Memory → SProp 𝓤) (run : Routine → Fun 𝓤) (𝓣 : Tables 𝓤 H) (known-list : Triple 𝓤 (𝓣 .C #listing·list-entries) (Lister 𝓤 H A mem run))
-    (known-one : Triple 𝓤 (𝓣 .C #port·one-number) (One 𝓤 H A mem run)) where
+    (known-one : Triple 𝓤 (𝓣 .C #port·number-of) (One 𝓤 H A mem run)) where
   port-walks : Walks 𝓤 H A port.ended stayed (WpFn 𝓤 H (𝓣 .C) (𝓣 .Λ) code.function) (port.clauses 𝓤 H A mem run)
   port-walks = walked 𝓤 H A port.ended stayed (port.clauses 𝓤 H A mem run) (WpFn 𝓤 H (𝓣 .C) (𝓣 .Λ) code.function)
       (λ κs. (slice-vals, (slice-vals, (slice-vals, (slice-vals, (slice-vals, tt))))))
@@ -218,4 +218,4 @@ fj-port-list-entries-spec 𝓤 H 𝓜 𝓖 𝓡 =
     (tables 𝓤 H 𝓜 𝓡 code.env .C) (tables 𝓤 H 𝓜 𝓡 code.env .Λ) #port·fj-port-list-entries code.function (code.unfolded 𝓤 H 𝓜 𝓡)
     (port-meets 𝓤 H (𝓖 .A) (givenOf 𝓤 H 𝓜 𝓖) (𝓜 .mem) (𝓡 .run) (tablesOf 𝓤 H 𝓜 (tables 𝓤 H 𝓜 𝓡 code.env))
     (cited 𝓤 H (Lister 𝓤 H (𝓖 .A) (𝓜 .mem) (𝓡 .run)) 𝓜 𝓡 code.env #listing·list-entries callee-def.routine code.calls-listing·records·list-entries (callee-thm.met 𝓤 H 𝓜 𝓖 𝓡))
-    (cited 𝓤 H (One 𝓤 H (𝓖 .A) (𝓜 .mem) (𝓡 .run)) 𝓜 𝓡 code.env #port·one-number one-def.routine code.calls-port·one-number (one-thm.met 𝓤 H 𝓜 𝓖 𝓡)))
+    (cited 𝓤 H (One 𝓤 H (𝓖 .A) (𝓜 .mem) (𝓡 .run)) 𝓜 𝓡 code.env #port·number-of one-def.routine code.calls-port·number-of (one-thm.met 𝓤 H 𝓜 𝓖 𝓡)))

@@ -53,7 +53,7 @@ spare-set-requires c κs =
     let at-shared-slice-known2 = c .before .before .before in
     let s = at-shared-slice-known2 .before .before .before in
     let byte = at-shared-slice-known2 .shared-slice-known2 .given 0 in
-    (omega arith, omega (arith, byte), part-length (now (s .args .snapshot)) (c .before .if2 .left ∙ ap (λ m. 1 + m) (c .before .before .edge-bytes .ensures)))
+    (omega (arith, byte), part-length (now (s .args .snapshot)) (c .before .if2 .left ∙ ap (λ m. 1 + m) (c .before .before .edge-bytes .ensures)))
 
 returns-3 : tie.Need-returns-3
 returns-3 c =

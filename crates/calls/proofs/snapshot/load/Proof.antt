@@ -38,8 +38,8 @@ degrees-are : (c : tie.After-degrees) →
     c .before .degrees-of .result ≡ degreesOf (snapshotEdges (now (s .snapshot))) (length (now (s .figures)))
 degrees-are c =
     let s = c .before .before .before .before .before .before .before .before .before .before .before in
-    let s = s .args in
-    c .before .degrees-of .ensures ∙ ap (λ l. degreesOf l (length (now (s .figures)))) (part-is (now (s .snapshot)))
+    let a = s .args in
+    c .before .degrees-of .ensures ∙ ap (λ l. degreesOf l (length (now (a .figures)))) (part-is (now (a .snapshot)))
 
 over : (c : tie.After-any-among) →
     let s = c .before .before .before .before .before .before .before .before .before .before .before .before .args in
@@ -47,8 +47,8 @@ over : (c : tie.After-any-among) →
 over c =
     let here = c .before .before .before .before in
     let s = here .before .before .before .before .before .before .before .before in
-    let s = s .args in
-    over-by (snapshotEdges (now (s .snapshot))) (length (now (s .figures))) (fitted here .sizes .few) (degrees-are (c .before)) (c .any-among .ensures)
+    let a = s .args in
+    over-by (snapshotEdges (now (a .snapshot))) (length (now (a .figures))) (fitted here .sizes .few) (degrees-are (c .before)) (c .any-among .ensures)
 
 state-refusal-requires : tie.Need-state-refusal-requires
 state-refusal-requires c κs = search needs

@@ -1,16 +1,9 @@
 -- `calls::snapshot::snapshot_byte` meets its contract. Assumes nothing.
-use Prim.Native.Nat.{_*_, _-_, ℕ, _≤_}
-use native.Mathlib.Nat.{mul-le-mul}
 use native.Mathlib.Omega.{arith}
 use borrow.Author.Needs.{needs}
-use Rattle.packed.specs.Pairs.{maxNodes, pairCount}
 use Rattle.calls.proofs.SnapshotLaws.{bytes-small, first-is, last-is, whole-is}
 use Rattle.calls.proofs.snapshot.snapshot_byte.Statement.{statement}
 use Rattle.calls.proofs.snapshot.snapshot_byte.Tie as tie
-
--- the pairs, as the code computes them
-few : (n : ℕ) → n ≤ maxNodes → n * (n - 1) ≤ 65280
-few n h = mul-le-mul {n₂ = 256} {m₂ = 255} h (omega arith)
 
 sub-result : tie.Need-sub-result
 sub-result c = search needs
@@ -21,11 +14,8 @@ cast-result c = search needs
 returns : tie.Need-returns
 returns c = first-is _ _ _ (c .before .before .pre .1) (c .if1 .taken)
 
-sub-pairs : tie.Need-sub-pairs
-sub-pairs c = omega arith
-
-mul-pairs : tie.Need-mul-pairs
-mul-pairs c = omega (arith, few (c .before .before .args .n) (c .before .before .pre .1))
+row-start-requires : tie.Need-row-start-requires
+row-start-requires c κs = search needs
 
 sub-x : tie.Need-sub-x
 sub-x c = search needs
@@ -35,31 +25,32 @@ shared-slice-read-x c = search needs
 
 mul-if2 : tie.Need-mul-if2
 mul-if2 c =
-    let s = c .before .before .before in
+    let s = c .before .before .before .before in
     omega (arith, s .pre .3, bytes-small (s .args .n) (s .pre .1))
 
 returns-2 : tie.Need-returns-2
-unfolding pairCount
-returns-2 c = whole-is _ (c .before .before .before .before .args .n) _ (λ k. c .before .shared-slice-known2 .given k .fits) (c .before .before .if1 .left) (c .if2 .taken)
+returns-2 c =
+    let at-if1 = c .before .before .before in
+    let s = at-if1 .before .before in
+    whole-is _ (s .args .n) _ (c .before .before .row-start .ensures) (λ k. c .before .shared-slice-known2 .given k .fits) (at-if1 .if1 .left) (c .if2 .taken)
 
 mul-trimmed : tie.Need-mul-trimmed
 mul-trimmed c =
-    let s = c .before .before .before .before in
+    let s = c .before .before .before .before .before in
     omega (arith, s .pre .3, bytes-small (s .args .n) (s .pre .1))
 
 sub-trimmed : tie.Need-sub-trimmed
 sub-trimmed c = search needs
 
 trimmed-requires : tie.Need-trimmed-requires
-unfolding pairCount
-trimmed-requires c κs = omega (arith, c .before .before .before .before .pre .3)
+trimmed-requires c κs = omega (arith, c .before .before .before .before .before .pre .3, c .before .before .row-start .ensures)
 
 returns-3 : tie.Need-returns-3
-unfolding pairCount
 returns-3 c =
-    let at-if1 = c .before .before .before in
+    let at-row-start = c .before .before .before in
+    let at-if1 = at-row-start .before in
     let s = at-if1 .before .before in
-    last-is _ (s .args .n) _ (λ k. c .before .before .shared-slice-known2 .given k .fits) (at-if1 .if1 .left) (s .pre .3) (c .before .if2 .left) (c .trimmed .ensures)
+    last-is _ (s .args .n) _ (at-row-start .row-start .ensures) (λ k. c .before .before .shared-slice-known2 .given k .fits) (at-if1 .if1 .left) (s .pre .3) (c .before .if2 .left) (c .trimmed .ensures)
 
 pub snapshot-byte-spec : {M : Type 1} → statement M
 snapshot-byte-spec =
@@ -68,8 +59,7 @@ snapshot-byte-spec =
     sub-result
     cast-result
     returns
-    sub-pairs
-    mul-pairs
+    row-start-requires
     sub-x
     shared-slice-read-x
     mul-if2

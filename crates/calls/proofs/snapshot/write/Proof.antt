@@ -19,7 +19,7 @@ returns c =
     write-lengths (state (now (s .args .edges)) (now (s .args .figures)) (now (s .args .marks))) _ (c .before .state-refusal .ensures) (c .if1 .taken)
 
 edge-bytes-requires : tie.Need-edge-bytes-requires
-edge-bytes-requires c κs = let f = fitted-by (c .before .state-refusal .ensures) (c .if1 .left) in (f .sizes .some, f .sizes .few)
+edge-bytes-requires c κs = let f = fitted-by (c .before .state-refusal .ensures) (c .if1 .left) in f .sizes .few
 
 add-if2 : tie.Need-add-if2
 add-if2 c = let f = fitted-by (c .before .before .state-refusal .ensures) (c .before .if1 .left) in omega (arith, c .edge-bytes .ensures, bytes-small _ (f .sizes .few))

@@ -5,7 +5,7 @@ use borrow.Author.Needs.{needs}
 use denote.Ref.{now}
 use lib.ListN.{length}
 use Rattle.merge.proofs.ChangeLaws.{length-merged, over-after-is}
-use Rattle.merge.specs.Steps.{maxEdgeBytes}
+use Rattle.state.specs.Sizes.{maxEdgeBytes}
 use Rattle.calls.proofs.SnapshotLaws.{bytes-small}
 use Rattle.merge.proofs.merged.any_over_after.Statement.{statement}
 use Rattle.merge.proofs.merged.any_over_after.Tie as tie

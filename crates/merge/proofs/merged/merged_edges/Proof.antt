@@ -1,16 +1,15 @@
 -- `merge::merged::merged_edges` meets its contract. After i turns the first i bytes are there. Assumes nothing.
 use mathlib.Core.Path.{ap, sym, _∙_, _≡_}
-use Prim.Native.Nat.{_+_, _-_, _/_, _≤_}
+use Prim.Native.Nat.{_-_, _≤_}
 use native.Mathlib.Omega.{arith}
 use borrow.Author.Needs.{needs}
 use lib.ListN.{getD, replicate}
 use Rattle.arith.proofs.Sums.{fill-end, fill-step, fillTo-none}
 use Rattle.arith.specs.Sums.{fillTo}
 use Rattle.merge.proofs.ChangeLaws.{bytes-within}
-use Rattle.merge.specs.Steps.{maxEdgeBytes, mergedByte, mergedEdges}
-use Rattle.packed.proofs.RowLaws.{pairs-few}
+use Rattle.merge.specs.Steps.{mergedByte, mergedEdges}
 use Rattle.calls.proofs.SnapshotLaws.{bytes-small}
-use Rattle.state.specs.Sizes.{edgeBytes}
+use Rattle.state.specs.Sizes.{edgeBytes, maxEdgeBytes}
 use Rattle.merge.proofs.merged.merged_edges.Statement.{statement}
 use Rattle.merge.proofs.merged.merged_edges.Tie as tie
 
@@ -20,16 +19,11 @@ Inv-loop edges theirs base n after₀ bytes i₀ after i = (i ≤ bytes) × (byt
 abbrev μ-loop : tie.MeasureT-loop
 μ-loop edges theirs base n after₀ bytes i₀ after i = bytes - i
 
-row-start-requires : tie.Need-row-start-requires Inv-loop μ-loop
-row-start-requires c κs = c .before .before .before .pre .0 .few
-
-add-bytes : tie.Need-add-bytes Inv-loop μ-loop
-add-bytes c =
-    let s = c .before .before .before .before in
-    omega (arith, pairs-few (s .pre .0 .few), c .row-start .ensures)
+edge-bytes-requires : tie.Need-edge-bytes-requires Inv-loop μ-loop
+edge-bytes-requires c κs = c .before .before .before .pre .0 .few
 
 loop-holds : tie.Need-loop-holds Inv-loop μ-loop
-loop-holds c = (search needs, ap (λ m. (m + 7) / 8) (c .row-start .ensures), sym (fillTo-none _ _))
+loop-holds c = (search needs, c .edge-bytes .ensures, sym (fillTo-none _ _))
 
 shared-slice-read-merged-byte : tie.Need-shared-slice-read-merged-byte Inv-loop μ-loop
 shared-slice-read-merged-byte c =
@@ -84,8 +78,7 @@ merged-edges-spec =
     (tie.spec
     Inv-loop
     μ-loop
-    row-start-requires
-    add-bytes
+    edge-bytes-requires
     loop-holds
     shared-slice-read-merged-byte
     shared-slice-read-merged-byte-2

@@ -22,7 +22,7 @@ returns c =
 reconcile-refusal-requires : tie.Need-reconcile-refusal-requires
 reconcile-refusal-requires c κs =
     let f = fitted-by (c .before .before .state-refusal .ensures) (c .before .if1 .left) in
-    (f .sizes .some, sized-room (f .sizes))
+    sized-room (f .sizes)
 
 same-length : tie.Need-same-length
 same-length c = search needs
@@ -35,22 +35,22 @@ returns-2 c =
     let s = at-state-refusal .before .before .before .before .before .before in
     call-refused (state (now (s .args .edges)) (now (s .args .figures)) (now (s .args .marks))) _ _ (fitted-by (at-state-refusal .state-refusal .ensures) (at-if1 .if1 .left)) (c .before .reconcile-refusal .ensures) (c .if2 .taken)
 
-take-out-all-requires : tie.Need-take-out-all-requires
-take-out-all-requires c κs =
+take-all-requires : tie.Need-take-all-requires
+take-all-requires c κs =
     let at-if2 = c .before .before .before in
     let at-reconcile-refusal = at-if2 .before in
     let at-if1 = at-reconcile-refusal .before .before in
     let at-state-refusal = at-if1 .before in
     accepted-aligned _ (fitted-by (at-state-refusal .state-refusal .ensures) (at-if1 .if1 .left)) (at-reconcile-refusal .reconcile-refusal .ensures) (at-if2 .if2 .left)
 
-put-in-all-requires : tie.Need-put-in-all-requires
-put-in-all-requires c κs =
-    let at-take-out-all = c .before .before .before .before .before .before .before .before .before in
-    let at-if2 = at-take-out-all .before .before .before .before in
+take-all-requires-2 : tie.Need-take-all-requires-2
+take-all-requires-2 c κs =
+    let at-take-all = c .before .before .before .before .before .before .before .before .before in
+    let at-if2 = at-take-all .before .before .before .before in
     let at-reconcile-refusal = at-if2 .before in
     let at-if1 = at-reconcile-refusal .before .before in
     let at-state-refusal = at-if1 .before in
-    let kept = at-take-out-all .take-out-all .kept in
+    let kept = at-take-all .take-all .kept in
     aligned-kept (accepted-aligned _ (fitted-by (at-state-refusal .state-refusal .ensures) (at-if1 .if1 .left)) (at-reconcile-refusal .reconcile-refusal .ensures) (at-if2 .if2 .left)) (kept .0) (kept .1 .0) (kept .1 .1 .0)
 
 same-length-2 : tie.Need-same-length-2
@@ -65,16 +65,16 @@ same-length-4 c = search needs
 returns-3 : tie.Need-returns-3
 unfolding reconcileCall
 returns-3 c =
-    let at-put-in-all = c .before .before .before .before .before .before in
-    let at-take-out-all = at-put-in-all .before .before .before .before .before .before .before .before .before .before in
-    let at-if2 = at-take-out-all .before .before .before .before in
+    let at-take-all2 = c .before .before .before .before .before .before in
+    let at-take-all = at-take-all2 .before .before .before .before .before .before .before .before .before .before in
+    let at-if2 = at-take-all .before .before .before .before in
     let at-reconcile-refusal = at-if2 .before in
     let at-if1 = at-reconcile-refusal .before .before in
     let at-state-refusal = at-if1 .before in
     let s = at-state-refusal .before .before .before .before .before .before in
     let f = fitted-by (at-state-refusal .state-refusal .ensures) (at-if1 .if1 .left) in
     call-accepted (state (now (s .args .edges)) (now (s .args .figures)) (now (s .args .marks))) _ _ f (at-reconcile-refusal .reconcile-refusal .ensures) (at-if2 .if2 .left)
-    (steps-reconcile (state (now (s .args .edges)) (now (s .args .figures)) (now (s .args .marks))) (now (s .args .theirs)) (now (s .args .base)) f (at-take-out-all .take-out-all .ensures) (at-take-out-all .take-out-all .kept .1 .0) (at-put-in-all .put-in-all .ensures))
+    (steps-reconcile (state (now (s .args .edges)) (now (s .args .figures)) (now (s .args .marks))) (now (s .args .theirs)) (now (s .args .base)) f (at-take-all .take-all .ensures) (at-take-all .take-all .kept .1 .0) (at-take-all2 .take-all2 .ensures))
 
 pub reconcile-spec : {M : Type 1} → statement M
 reconcile-spec =
@@ -85,8 +85,8 @@ reconcile-spec =
     reconcile-refusal-requires
     same-length
     returns-2
-    take-out-all-requires
-    put-in-all-requires
+    take-all-requires
+    take-all-requires-2
     same-length-2
     same-length-3
     same-length-4

@@ -7,9 +7,7 @@ use Rattle.merge.proofs.reconcile.reconcile_refusal.Statement.{statemen
 use Rattle.merge.proofs.reconcile.reconcile_refusal.Tie as tie
 
 edge-bytes-requires : tie.Need-edge-bytes-requires
-edge-bytes-requires c κs =
-    let s = c .before .before .before in
-    (s .pre .0, s .pre .1 .few)
+edge-bytes-requires c κs = c .before .before .before .pre .few
 
 returns : tie.Need-returns
 returns c = sym (refused-length _ _ _ (λ e. c .if1 .taken (e ∙ sym (c .before .edge-bytes .ensures))))
@@ -20,7 +18,7 @@ returns-2 c = sym (passed-length _ _ _ (c .before .if1 .left ∙ c .before .befo
 any-over-requires : tie.Need-any-over-requires
 any-over-requires c κs =
     let s = c .before .before .before .before .before .before in
-    s .pre .1
+    s .pre
 
 returns-3 : tie.Need-returns-3
 returns-3 c =
@@ -34,9 +32,9 @@ any-over-after-requires c κs =
     let at-edge-bytes = at-if1 .before in
     let s = at-edge-bytes .before .before .before .before in
     let e = at-edge-bytes .edge-bytes .ensures in (
-      s .pre .1,
-      record { few = s .pre .1 .few; bits = omega (arith, at-if1 .if1 .left ∙ e) },
-      record { few = s .pre .1 .few; bits = omega (arith, c .before .before .if2 .left ∙ e) },
+      s .pre,
+      record { few = s .pre .few; bits = omega (arith, at-if1 .if1 .left ∙ e) },
+      record { few = s .pre .few; bits = omega (arith, c .before .before .if2 .left ∙ e) },
     )
 
 returns-4 : tie.Need-returns-4

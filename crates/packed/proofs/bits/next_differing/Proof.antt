@@ -35,7 +35,7 @@ returns : tie.Need-returns Inv-loop μ-loop
 returns c =
     let found = c .before in
     let at = found .before .before .before .before .loop in
-    turn-ends (bitXor (found .before .before .word-at .result) (found .before .word-at2 .result)) (at .inv) (holds-differ (found .before .before .word-at .ensures) (found .before .word-at2 .ensures)) (found .first-one .ensures) (c .if1 .taken)
+    turn-ends (bitXor (found .before .before .word-at .result) (found .before .word-at2 .result)) (at .inv) (holds-differ _ _ _ (found .before .before .word-at .ensures) (found .before .word-at2 .ensures)) (found .first-one .ensures) (c .if1 .taken)
 
 sub-result : tie.Need-sub-result Inv-loop μ-loop
 sub-result c = c .before .before .first-one .ensures .start
@@ -47,7 +47,7 @@ returns-2 : tie.Need-returns-2 Inv-loop μ-loop
 returns-2 c =
     let found = c .before .before in
     let at = found .before .before .before .before .loop in
-    turn-finds (bitXor (found .before .before .word-at .result) (found .before .word-at2 .result)) (at .inv) (holds-differ (found .before .before .word-at .ensures) (found .before .word-at2 .ensures)) (found .first-one .ensures) (c .before .if1 .left) (c .if2 .taken)
+    turn-finds (bitXor (found .before .before .word-at .result) (found .before .word-at2 .result)) (at .inv) (holds-differ _ _ _ (found .before .before .word-at .ensures) (found .before .word-at2 .ensures)) (found .first-one .ensures) (c .before .if1 .left) (c .if2 .taken)
 
 sub-i : tie.Need-sub-i Inv-loop μ-loop
 sub-i c = omega arith
@@ -62,7 +62,7 @@ loop-again : tie.Need-loop-again Inv-loop μ-loop
 loop-again c =
     let found = c .before .before in
     let at = found .before .before .before .before .loop in
-    turn-goes (bitXor (found .before .before .word-at .result) (found .before .word-at2 .result)) (at .inv) (holds-differ (found .before .before .word-at .ensures) (found .before .word-at2 .ensures)) (found .first-one .ensures) (c .before .if1 .left) (c .if2 .left)
+    turn-goes (bitXor (found .before .before .word-at .result) (found .before .word-at2 .result)) (at .inv) (holds-differ _ _ _ (found .before .before .word-at .ensures) (found .before .word-at2 .ensures)) (found .first-one .ensures) (c .before .if1 .left) (c .if2 .left)
 
 returns-3 : tie.Need-returns-3 Inv-loop μ-loop
 returns-3 c = passed-all (c .before .loop .inv) (c .loop-test .left)

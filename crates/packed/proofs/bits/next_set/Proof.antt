@@ -31,7 +31,7 @@ returns : tie.Need-returns Inv-loop μ-loop
 returns c =
     let found = c .before in
     let at = found .before .before .before .loop in
-    turn-ends (found .before .word-at .result) (at .inv) (holds-bits (found .before .word-at .ensures)) (found .first-one .ensures) (c .if1 .taken)
+    turn-ends (found .before .word-at .result) (at .inv) (holds-bits _ _ (found .before .word-at .ensures)) (found .first-one .ensures) (c .if1 .taken)
 
 sub-result : tie.Need-sub-result Inv-loop μ-loop
 sub-result c = c .before .before .first-one .ensures .start
@@ -43,7 +43,7 @@ returns-2 : tie.Need-returns-2 Inv-loop μ-loop
 returns-2 c =
     let found = c .before .before in
     let at = found .before .before .before .loop in
-    turn-finds (found .before .word-at .result) (at .inv) (holds-bits (found .before .word-at .ensures)) (found .first-one .ensures) (c .before .if1 .left) (c .if2 .taken)
+    turn-finds (found .before .word-at .result) (at .inv) (holds-bits _ _ (found .before .word-at .ensures)) (found .first-one .ensures) (c .before .if1 .left) (c .if2 .taken)
 
 sub-i : tie.Need-sub-i Inv-loop μ-loop
 sub-i c = omega arith
@@ -58,7 +58,7 @@ loop-again : tie.Need-loop-again Inv-loop μ-loop
 loop-again c =
     let found = c .before .before in
     let at = found .before .before .before .loop in
-    turn-goes (found .before .word-at .result) (at .inv) (holds-bits (found .before .word-at .ensures)) (found .first-one .ensures) (c .before .if1 .left) (c .if2 .left)
+    turn-goes (found .before .word-at .result) (at .inv) (holds-bits _ _ (found .before .word-at .ensures)) (found .first-one .ensures) (c .before .if1 .left) (c .if2 .left)
 
 returns-3 : tie.Need-returns-3 Inv-loop μ-loop
 returns-3 c = passed-all (c .before .loop .inv) (c .loop-test .left)

@@ -1,8 +1,7 @@
 -- `packed::degrees::count_run` meets its contract. The run has the nodes that are not counted yet. Assumes nothing.
 use mathlib.Core.Path.{ap, sym, _∙_, _≡_}
-use Prim.Native.Nat.{_%_, _*_, _+_, _-_, _/_, _<_, _^_, ℕ, _≤_}
-use native.Mathlib.Nat.{le-refl, mul-le-mul}
-use native.Mathlib.Numerals.{add-one}
+use Prim.Native.Nat.{_%_, _*_, _+_, _-_, _<_, _^_, ℕ, _≤_}
+use native.Mathlib.Nat.{le-refl}
 use native.Mathlib.Omega.{arith}
 use denote.Ref.{now}
 use lib.Count.{leadingZeros}
@@ -10,10 +9,10 @@ use lib.ListN.{getD, length}
 use lib.Pow.{pow-pos}
 use Rattle.arith.proofs.Sums.{countTo-le}
 use Rattle.packed.proofs.DegreeLaws.{length-row, Row, row-ahead, row-done, row-next, Turn, turn-of}
-use Rattle.packed.proofs.PairLaws.{le-square, pairs-suc, pred-square}
+use Rattle.packed.proofs.RowLaws.{row-few, row-within}
 use Rattle.packed.proofs.RunLaws.{shifted-one}
 use Rattle.packed.specs.Edges.{edge}
-use Rattle.packed.specs.Pairs.{maxNodes, pairCount}
+use Rattle.packed.specs.Pairs.{maxNodes}
 use Rattle.packed.specs.Runs.{runOf}
 use Rattle.packed.proofs.degrees.count_run.Statement.{statement}
 use Rattle.packed.proofs.degrees.count_run.Tie as tie
@@ -24,21 +23,13 @@ Inv-loop edges counts₀ b at end own₀ run₀ counts own run = (q : ℕ) × Ro
 abbrev μ-loop : tie.MeasureT-loop
 μ-loop edges counts₀ b at end own₀ run₀ counts own run = run
 
--- the row's first bit, as the code computes it
-first-bit : (b : ℕ) → (b * b - b) / 2 ≡ pairCount b
-unfolding pairCount
-first-bit b = ap (λ x. x / 2) (sym (pred-square b))
-
-small : (b : ℕ) → b < maxNodes → b * b ≤ 65025
-small b h = mul-le-mul {n₂ = 255} {m₂ = 255} (omega arith) (omega arith)
-
 -- the next node
 turn : (c : tie.In-loop Inv-loop μ-loop) →
-    let s = c .before .before .before .before .before .args in
+    let s = c .before .before .before .before .before .before .args in
     let at = c .before .loop in
     (leadingZeros 64 (at .run) ≤ 63) × Turn (now (s .edges)) (s .b) (s .end) (at .run) (at .inv .0) (s .end - 1 - (63 - leadingZeros 64 (at .run))) (63 - leadingZeros 64 (at .run))
 turn c =
-    let s = c .before .before .before .before .before in
+    let s = c .before .before .before .before .before .before in
     let at = c .before .loop in
     turn-of (now (s .args .edges)) (s .args .b) (s .args .end) (at .run) (at .inv .0) (s .pre .4) (at .inv .1 .stop) (omega (arith, s .pre .3, at .inv .1 .start)) (at .inv .1 .left) (omega arith)
 
@@ -47,11 +38,11 @@ counts-length : (c : tie.In-loop Inv-loop μ-loop) → length (c .before .loop .
 counts-length c = ap length (c .before .loop .inv .1 .kept) ∙ length-row _ _ _
 
 fresh : (c : tie.In-loop Inv-loop μ-loop) →
-    let s = c .before .before .before .before .before .args in
+    let s = c .before .before .before .before .before .before .args in
     let at = c .before .loop in
     getD (at .counts) (s .end - 1 - (63 - leadingZeros 64 (at .run))) 0 ≤ s .b
 fresh c =
-    let s = c .before .before .before .before .before in
+    let s = c .before .before .before .before .before .before in
     let at = c .before .loop in
     let a : ℕ = s .args .end - 1 - (63 - leadingZeros 64 (at .run)) in
     omega (arith, ap (λ xs. getD xs a 0) (at .inv .1 .kept), row-ahead (now (s .args .edges)) (s .args .b) (at .inv .0) a (s .pre .0) (turn c .1 .ahead) (omega (arith, turn c .1 .places, s .pre .4)), countTo-le (edge (now (s .args .edges)) a) (s .args .b))
@@ -65,31 +56,30 @@ taken c =
     let e = shifted-one rest (omega arith) in
     (omega (arith, e, pow-pos rest), omega (arith, e, turn c .1 .after))
 
-mul-run-of : tie.Need-mul-run-of Inv-loop μ-loop
-mul-run-of c = omega (arith, small (c .before .before .args .b) (c .before .before .pre .0))
-
-sub-run-of : tie.Need-sub-run-of Inv-loop μ-loop
-sub-run-of c = le-square (c .before .before .args .b)
+row-start-requires : tie.Need-row-start-requires Inv-loop μ-loop
+row-start-requires c κs = omega arith
 
 add-run-of : tie.Need-add-run-of Inv-loop μ-loop
-add-run-of c = omega (arith, small (c .before .before .args .b) (c .before .before .pre .0), c .before .before .pre .4)
+add-run-of c =
+    let s = c .before .before .before in
+    omega (arith, row-few (s .args .b) (s .pre .1), s .pre .4)
 
-sub-run-of-2 : tie.Need-sub-run-of-2 Inv-loop μ-loop
-sub-run-of-2 c = omega arith
+sub-run-of : tie.Need-sub-run-of Inv-loop μ-loop
+sub-run-of c = omega arith
 
 run-of-requires : tie.Need-run-of-requires Inv-loop μ-loop
 run-of-requires c κs =
-    let s = c .before .before in
-    (omega arith, omega arith, omega (arith, first-bit (s .args .b), pairs-suc (s .args .b), s .pre .1 .bits, ap pairCount (add-one (s .args .b)), s .pre .4))
+    let s = c .before .before .before in
+    (omega arith, omega arith, omega (arith, row-within (s .args .b) (s .pre .1), s .pre .4))
 
 loop-holds : tie.Need-loop-holds Inv-loop μ-loop
 loop-holds c =
-    let s = c .before .before .before in (
+    let s = c .before .before .before .before in (
       s .args .at,
       record {
         start = le-refl (s .args .at);
         stop = omega arith;
-        left = c .run-of .ensures ∙ ap (λ i. runOf (now (s .args .edges)) (i + s .args .at) (s .args .end - s .args .at)) (first-bit (s .args .b));
+        left = c .run-of .ensures ∙ ap (λ i. runOf (now (s .args .edges)) (i + s .args .at) (s .args .end - s .args .at)) (c .before .row-start .ensures);
         kept = s .pre .5;
         mine = omega arith;
       },
@@ -124,10 +114,9 @@ slice-write-counts c = omega (arith, counts-length (c .before), turn (c .before)
 
 add-own : tie.Need-add-own Inv-loop μ-loop
 add-own c =
-    let s = c .before .before .before .before .before .before in
-    let s = s .args in
+    let s = c .before .before .before .before .before .before .before in
     let at = c .before .before .loop in
-    omega (arith, at .inv .1 .mine, at .inv .1 .stop, countTo-le (edge (now (s .edges)) (s .b)) (at .inv .0))
+    omega (arith, at .inv .1 .mine, at .inv .1 .stop, countTo-le (edge (now (s .args .edges)) (s .args .b)) (at .inv .0))
 
 shl-run : tie.Need-shl-run Inv-loop μ-loop
 shl-run c = omega arith
@@ -140,19 +129,19 @@ loop-less c = omega (arith, taken (c .before))
 
 loop-again : tie.Need-loop-again Inv-loop μ-loop
 loop-again c =
-    let s = c .before .before .before .before .before .before in
+    let s = c .before .before .before .before .before .before .before in
     let at = c .before .before .loop in
     let t = turn (c .before) in
     (_, row-next (now (s .args .edges)) (at .counts) (s .args .b) (s .args .at) (s .args .end) (at .own) (at .run) (at .inv .0) _ _ (s .pre .0) (s .pre .4) (omega arith) (at .inv .1) (t .1))
 
 same-length : tie.Need-same-length Inv-loop μ-loop
 same-length c =
-    let s = c .before .before .before .before .before in
+    let s = c .before .before .before .before .before .before in
     ap length (c .before .loop .inv .1 .kept) ∙ length-row _ _ _ ∙ sym (ap length (s .pre .5) ∙ length-row _ _ _)
 
 returns : tie.Need-returns Inv-loop μ-loop
 returns c =
-    let s = c .before .before .before .before .before in
+    let s = c .before .before .before .before .before .before in
     let at = c .before .loop in
     row-done (now (s .args .edges)) (at .counts) (s .args .b) (s .args .at) (s .args .end) (at .own) (at .run) (at .inv .0) (s .pre .0) (s .pre .4) (at .inv .1) (c .loop-test .left)
 
@@ -162,10 +151,9 @@ count-run-spec =
     (tie.spec
     Inv-loop
     μ-loop
-    mul-run-of
-    sub-run-of
+    row-start-requires
     add-run-of
-    sub-run-of-2
+    sub-run-of
     run-of-requires
     loop-holds
     cast-after

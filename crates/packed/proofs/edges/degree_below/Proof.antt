@@ -3,7 +3,6 @@
 use Prim.Native.Nat.{_+_, _-_}
 use native.Mathlib.Omega.{arith}
 use Rattle.arith.specs.Lists.{count}
-use Rattle.packed.proofs.PairLaws.{pairs-suc}
 use Rattle.packed.proofs.RowLaws.{Counted, counted-all, counted-few, counted-more, counted-none, row-few, row-within}
 use Rattle.packed.proofs.edges.degree_below.Statement.{statement}
 use Rattle.packed.proofs.edges.degree_below.Tie as tie

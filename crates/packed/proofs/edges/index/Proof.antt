@@ -1,22 +1,20 @@
--- `packed::edges::index` meets its contract: no product of two node numbers wraps. Assumes nothing.
-use borrow.Author.Needs.{needs}
-use mathlib.Core.Path.{sym}
+-- `packed::edges::index` meets its contract. Assumes nothing.
+use native.Mathlib.Nat.{le-of-lt}
 use native.Mathlib.Omega.{arith}
-use Rattle.packed.proofs.PairLaws.{product, pair-less}
+use borrow.Author.Needs.{needs}
+use Rattle.packed.proofs.PairLaws.{pair-less}
+use Rattle.packed.proofs.RowLaws.{pairs-few}
 use Rattle.packed.proofs.edges.index.Statement.{statement}
 use Rattle.packed.proofs.edges.index.Tie as tie
 
-sub-result : tie.Need-sub-result
-sub-result c = search needs
-
-mul-result : tie.Need-mul-result
-mul-result c = omega (arith, product (c .args .b) (c .pre .1))
+row-start-requires : tie.Need-row-start-requires
+row-start-requires c κs = search needs
 
 add-result : tie.Need-add-result
-add-result c = omega (arith, product (c .args .b) (c .pre .1))
+add-result c = omega (arith, c .row-start .ensures, pairs-few (le-of-lt (c .before .pre .1)))
 
 returns : tie.Need-returns
-returns c = sym (pair-less (c .args .a) (c .args .b) (c .pre .0))
+returns c = omega (arith, c .row-start .ensures, pair-less (c .before .args .a) (c .before .args .b) (c .before .pre .0))
 
 pub index-spec : {M : Type 1} → statement M
-index-spec = tie.close (tie.spec sub-result mul-result add-result returns)
+index-spec = tie.close (tie.spec row-start-requires add-result returns)

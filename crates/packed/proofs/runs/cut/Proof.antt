@@ -18,7 +18,7 @@ rem-result : tie.Need-rem-result
 rem-result c = omega (arith, shifted-one (c .args .count) (c .pre .1), pow-pos (c .args .count))
 
 returns : tie.Need-returns
-returns c = ap (λ m. c .args .run / 2 ^ c .args .after % m) (shifted-one (c .args .count) (c .pre .1))
+returns c = ap (λ m. c .args .word / 2 ^ c .args .after % m) (shifted-one (c .args .count) (c .pre .1))
 
 pub cut-spec : {M : Type 1} → statement M
 cut-spec = tie.close (tie.spec shr-result shl-result rem-result returns)

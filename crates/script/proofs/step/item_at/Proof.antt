@@ -5,20 +5,20 @@ use native.Mathlib.Omega.{arith}
 use borrow.Author.Needs.{needs}
 use denote.Ref.{now}
 use lib.ListN.{length}
-use Rattle.script.proofs.FieldLaws.{field-small}
+use Rattle.packed.proofs.RunLaws.{run-lt}
 use Rattle.script.proofs.RecordLaws.{Found, left-room, item-add, item-bad-end, item-end, item-few, item-list, item-list-b, item-remove}
 use Rattle.script.specs.Limits.{maxBytes, recordBits}
 use Rattle.script.proofs.step.item_at.Statement.{statement}
 use Rattle.script.proofs.step.item_at.Tie as tie
 
-found : (c : tie.After-field3) → Found (now (c .before .before .before .before .before .before .args .script)) (c .before .before .before .before .before .before .args .at)
-    (c .before .before .before .before .bits-left .result) (c .before .before .field .result) (c .before .field2 .result) (c .field3 .result)
+found : (c : tie.After-run-of3) → Found (now (c .before .before .before .before .before .before .args .script)) (c .before .before .before .before .before .before .args .at)
+    (c .before .before .before .before .bits-left .result) (c .before .before .run-of .result) (c .before .run-of2 .result) (c .run-of3 .result)
 found c = record {
   bits = c .before .before .before .before .bits-left .ensures;
   enough = c .before .before .before .if1 .left;
-  kinds = c .before .before .field .ensures;
-  first = c .before .field2 .ensures;
-  second = c .field3 .ensures;
+  kinds = c .before .before .run-of .ensures;
+  first = c .before .run-of2 .ensures;
+  second = c .run-of3 .ensures;
 }
 
 room : (c : tie.Else1) → (length (now (c .before .before .before .args .script)) ≤ maxBytes)
@@ -36,20 +36,20 @@ returns c =
     let s = c .before .before .before in
     item-few (now (s .args .script)) (s .args .at) _ (c .before .bits-left .ensures) (c .if1 .taken)
 
-field-requires : tie.Need-field-requires
-field-requires c κs = let r = room c in (omega arith, r .0, omega (arith, r .1))
+run-of-requires : tie.Need-run-of-requires
+run-of-requires c κs = let r = room c in (omega arith, omega arith, omega (arith, r .1))
 
-add-field : tie.Need-add-field
-add-field c = let r = room (c .before) in omega (arith, r .0, r .1)
+add-run-of : tie.Need-add-run-of
+add-run-of c = let r = room (c .before) in omega (arith, r .0, r .1)
 
-field-requires-2 : tie.Need-field-requires-2
-field-requires-2 c κs = let r = room (c .before) in (omega arith, r .0, omega (arith, r .1))
+run-of-requires-2 : tie.Need-run-of-requires-2
+run-of-requires-2 c κs = let r = room (c .before) in (omega arith, omega arith, omega (arith, r .1))
 
-add-field-2 : tie.Need-add-field-2
-add-field-2 c = let r = room (c .before .before) in omega (arith, r .0, r .1)
+add-run-of-2 : tie.Need-add-run-of-2
+add-run-of-2 c = let r = room (c .before .before) in omega (arith, r .0, r .1)
 
-field-requires-3 : tie.Need-field-requires-3
-field-requires-3 c κs = let r = room (c .before .before) in (omega arith, r .0, omega (arith, r .1))
+run-of-requires-3 : tie.Need-run-of-requires-3
+run-of-requires-3 c κs = let r = room (c .before .before) in (omega arith, omega arith, omega (arith, r .1))
 
 returns-2 : tie.Need-returns-2
 returns-2 c = item-add _ _ (found (c .before)) (c .if2 .taken)
@@ -59,9 +59,9 @@ returns-3 c = item-remove _ _ (found (c .before .before)) (c .before .if2 .left)
 
 add-k : tie.Need-add-k
 add-k c =
-    let at-field2 = c .before .before .before .before in
-    let s = at-field2 .before .before .before .before .before in
-    omega (arith, at-field2 .field2 .ensures, field-small (now (s .args .script)) (s .args .at + 2) 8 (omega arith))
+    let at-run-of2 = c .before .before .before .before in
+    let s = at-run-of2 .before .before .before .before .before in
+    omega (arith, at-run-of2 .run-of2 .ensures, run-lt (now (s .args .script)) (s .args .at + 2) 8)
 
 returns-4 : tie.Need-returns-4
 returns-4 c =
@@ -72,7 +72,7 @@ returns-5 c =
     item-list _ _ (found (c .before .before .before .before)) (c .before .before .before .if2 .left) (c .before .before .if3 .left) (c .before .if4 .taken) (c .if5 .left)
 
 ends-requires : tie.Need-ends-requires
-ends-requires c κs = let f = found (c .before .before .before) in (f .bits, f .enough, f .first, f .second)
+ends-requires c κs = let f = found (c .before .before .before) in (f .bits, f .enough)
 
 returns-6 : tie.Need-returns-6
 returns-6 c =
@@ -96,11 +96,11 @@ item-at-spec =
     (tie.spec
     bits-left-requires
     returns
-    field-requires
-    add-field
-    field-requires-2
-    add-field-2
-    field-requires-3
+    run-of-requires
+    add-run-of
+    run-of-requires-2
+    add-run-of-2
+    run-of-requires-3
     returns-2
     returns-3
     add-k

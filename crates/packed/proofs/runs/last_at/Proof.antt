@@ -1,21 +1,21 @@
--- `packed::bits::last_at` meets its contract: after m turns the word is the window of m bytes. Assumes nothing.
-use mathlib.Core.Path.{subst, _≡_}
-use Prim.Native.Nat.{_-_, _≤_}
+-- `packed::runs::last_at` meets its contract: after m turns the word is the run of m bytes. Assumes nothing.
+use mathlib.Core.Path.{ap, sym, _∙_, _≡_}
+use Prim.Native.Nat.{_*_, _-_, _≤_}
 use native.Mathlib.Omega.{arith}
 use borrow.Author.Needs.{needs}
-use Rattle.packed.proofs.WindowLaws.{window-none, window-or}
-use Rattle.packed.specs.Bits.{Window}
-use Rattle.packed.proofs.bits.last_at.Statement.{statement}
-use Rattle.packed.proofs.bits.last_at.Tie as tie
+use Rattle.packed.proofs.RunLaws.{run-none, run-or}
+use Rattle.packed.specs.Runs.{runOf}
+use Rattle.packed.proofs.runs.last_at.Statement.{statement}
+use Rattle.packed.proofs.runs.last_at.Tie as tie
 
 abbrev Inv-loop : tie.InvT-loop
-Inv-loop bits k word₀ m₀ word m = (m ≤ 8) × Window bits k m word
+Inv-loop bits k word₀ m₀ word m = (m ≤ 8) × (word ≡ runOf bits (8 * k) (8 * m))
 
 abbrev μ-loop : tie.MeasureT-loop
 μ-loop bits k word₀ m₀ word m = 8 - m
 
 loop-holds : tie.Need-loop-holds Inv-loop μ-loop
-loop-holds c = (search needs, window-none _ _)
+loop-holds c = (search needs, sym (run-none _ _))
 
 byte-at-requires : tie.Need-byte-at-requires Inv-loop μ-loop
 byte-at-requires c κs = c .before .before .before .pre
@@ -30,12 +30,13 @@ loop-again : tie.Need-loop-again Inv-loop μ-loop
 loop-again c =
     let s = c .before .before .before .before in
     let at = c .before .before .loop in
-    (omega arith, window-or (s .args .bits .now) (s .args .k) (at .m) 1 (at .word) (c .byte-at .result) (omega arith) (at .inv .1) (c .byte-at .ensures))
+    (omega arith, run-or (s .args .bits .now) (s .args .k) (at .m) 1 (omega arith) (at .inv .1) (c .byte-at .ensures))
 
 returns : tie.Need-returns Inv-loop μ-loop
 returns c =
+    let s = c .before .before .before in
     let e : c .before .loop .m ≡ 8 = omega arith in
-    subst (λ m. Window (c .before .before .before .args .bits .now) (c .before .before .before .args .k) m (c .before .loop .word)) e (c .before .loop .inv .1)
+    c .before .loop .inv .1 ∙ ap (λ m. runOf (s .args .bits .now) (8 * s .args .k) (8 * m)) e
 
 pub last-at-spec : {M : Type 1} → statement M
 last-at-spec =

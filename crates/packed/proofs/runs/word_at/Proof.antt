@@ -1,9 +1,9 @@
--- `packed::bits::word_at` meets its contract: two windows of four bytes side by side. Assumes nothing.
+-- `packed::runs::word_at` meets its contract: two runs of four bytes, one after the other. Assumes nothing.
 use borrow.Author.Needs.{needs}
 use native.Mathlib.Omega.{arith}
-use Rattle.packed.proofs.WindowLaws.{window-or}
-use Rattle.packed.proofs.bits.word_at.Statement.{statement}
-use Rattle.packed.proofs.bits.word_at.Tie as tie
+use Rattle.packed.proofs.RunLaws.{run-or}
+use Rattle.packed.proofs.runs.word_at.Statement.{statement}
+use Rattle.packed.proofs.runs.word_at.Tie as tie
 
 sub-if1 : tie.Need-sub-if1
 sub-if1 c = search needs
@@ -26,7 +26,7 @@ quad-at-requires-2 c κs = search needs
 returns-2 : tie.Need-returns-2
 returns-2 c =
     let s = c .before .before .before .before in
-    window-or (s .args .bits .now) (s .args .k) 4 4 (c .before .quad-at .result) (c .quad-at2 .result) (omega arith) (c .before .quad-at .ensures) (c .quad-at2 .ensures)
+    run-or (s .args .bits .now) (s .args .k) 4 4 (omega arith) (c .before .quad-at .ensures) (c .quad-at2 .ensures)
 
 pub word-at-spec : {M : Type 1} → statement M
 word-at-spec =

@@ -1,10 +1,14 @@
--- `packed::bits::quad_at` meets its contract: four bytes side by side. Assumes nothing.
-use Prim.Native.Nat.{_+_}
+-- `packed::runs::quad_at` meets its contract: four bytes, one after the other. Assumes nothing.
+use mathlib.Core.Path.{sym, _≡_}
+use Prim.Native.Nat.{_*_, _+_, ℕ}
 use native.Mathlib.Omega.{arith}
 use borrow.Author.Needs.{needs}
-use Rattle.packed.proofs.WindowLaws.{window-quad}
-use Rattle.packed.proofs.bits.quad_at.Statement.{statement}
-use Rattle.packed.proofs.bits.quad_at.Tie as tie
+use lib.Dec.{lit<}
+use lib.ListN.{getD}
+use Rattle.packed.proofs.RunLaws.{run-byte, run-or}
+use Rattle.packed.specs.Runs.{runOf}
+use Rattle.packed.proofs.runs.quad_at.Statement.{statement}
+use Rattle.packed.proofs.runs.quad_at.Tie as tie
 
 shared-slice-read-result : tie.Need-shared-slice-read-result
 shared-slice-read-result c = search needs
@@ -42,9 +46,10 @@ cast-result-4 c = omega (arith, c .shared-slice-known4 .given (c .before .before
 returns : tie.Need-returns
 returns c =
     let s = c .before .before .before .before in
+    let bs = s .args .bits .now in
     let k = s .args .k in
-    let byte = c .shared-slice-known4 .given in
-    window-quad (s .args .bits .now) k (byte k .fits) (byte (k + 1) .fits) (byte (k + 2) .fits) (byte (k + 3) .fits)
+    let byte : (m : ℕ) → getD bs m 0 ≡ runOf bs (8 * m) 8 = λ m. sym (run-byte bs m (c .shared-slice-known4 .given m .fits)) in
+    run-or bs k 3 1 (lit< tt) (run-or bs k 2 1 (lit< tt) (run-or bs k 1 1 (lit< tt) (byte k) (byte (k + 1))) (byte (k + 2))) (byte (k + 3))
 
 pub quad-at-spec : {M : Type 1} → statement M
 quad-at-spec =
