@@ -36,10 +36,6 @@ pub length-bytes : (l : List ℕ) (p x i : ℕ) → length (withBytes l p x i) �
 length-bytes l p x zero = refl
 length-bytes l p x (suc i) = length-set (withBytes l p x i) (8 * p + i) (byteOf x i) ∙ length-bytes l p x i
 
-pub length-with : (l : List ℕ) (p x : ℕ) → length (withFigure l p x) ≡ length l
-unfolding withFigure
-length-with l p x = length-bytes l p x 8
-
 -- byte 8p + i of the figures is byte i of figure p
 pub byte-at : (figures : List ℕ) (p i : ℕ) → i < 8 → byteAt figures (8 * p + i) ≡ byteOf (getD figures p 0) i
 unfolding byteAt

@@ -3,13 +3,13 @@
 use mathlib.Core.Bool.{Bool, false}
 use mathlib.Core.List.{List}
 use mathlib.Core.Logic.{_≢_}
-use mathlib.Core.Path.{ap, subst, sym, _∙_, _≡_}
+use mathlib.Core.Path.{ap, sym, _∙_, _≡_}
 use Prim.Native.Nat.{_/_, _<_, max, min, ℕ, _≤_}
 use native.Mathlib.Decide.{decLt, ℕ-discrete}
 use native.Mathlib.Omega.{arith}
 use borrow.Author.Tests.{eq-eqb, ne-eqb}
 use lib.ListN.{length}
-use Rattle.packed.proofs.BitLaws.{bit-with-other, bit-with-same, bytes-with-bit, length-with-bit, same-bits}
+use Rattle.packed.proofs.BitLaws.{bit-with-other, bit-with-same, length-with-bit, same-bits}
 use Rattle.packed.proofs.PairLaws.{pair-comm, pair-inj, pair-lt, pair-onto}
 use Rattle.packed.specs.Bits.{bitAt, Bytes, withBit}
 use Rattle.packed.specs.Edges.{edge, withEdge}
@@ -57,12 +57,6 @@ edge-with-other es a b on c d far = elim (ℕ-discrete a b) [
     | no m ↦ rw (with-two es a b on n, edge-two (withBit es (pairIndex a b) on) c d m, edge-two es c d m)
         (bit-with-other es (pairIndex a b) (pairIndex c d) on (λ e. let i = pair-inj c d a b m n e in far (i .0) (i .1)))
   ]
-]
-
-pub bytes-with-edge : (es : List ℕ) (a b : ℕ) (on : Bool) → Bytes es → Bytes (withEdge es a b on)
-bytes-with-edge es a b on f = elim (ℕ-discrete a b) [
-  | yes e ↦ subst Bytes (sym (with-self es a b on e)) f
-  | no d ↦ subst Bytes (sym (with-two es a b on d)) (bytes-with-bit es (pairIndex a b) on f)
 ]
 
 -- the bits past the pairs of n nodes are kept

@@ -70,9 +70,6 @@ pub next-best : (s : Progress) → IsBest s (length (s .figures)) (next s)
 unfolding next
 next-best s = best s (length (s .figures))
 
-pub next-in : (s : Progress) (p : ℕ) → next s ≡ at p → p < length (s .figures)
-next-in s p e = subst (IsBest s (length (s .figures))) e (next-best s) .0
-
 -- ---- what the code answers: a number below n, or n
 
 pub next-of-node : {n p : ℕ} → p < n → nextOf n p ≡ at p

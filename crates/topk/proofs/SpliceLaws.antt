@@ -43,9 +43,6 @@ mixed-read X E n m h l =
     ∙ getD-drop n E (m - n) 0
     ∙ ap (λ (k : ℕ). getD E k 0) (sym e)
 
-pub length-mixed : (X E : List ℕ) (n : ℕ) → n ≤ length X → n ≤ length E → length (mixed X E n) ≡ length E
-length-mixed X E n hx he = simp (length-append, length-drop) (rw (length-take-le n X hx) (omega arith))
-
 -- what was spliced in, and what stands after it
 module _ (E : List ℕ) (a p f : ℕ) (h : a ≤ length E) where
   pub length-spliced : length (spliced E a p f) ≡ length E + 2

@@ -61,20 +61,17 @@ fn one_turn(
     ensures { λ r. ⌜ (r .stopped ≡ stopped k (progressOf (now (figures .entry)) (now (marks .entry)) (now (taken .entry)) (now (entries .entry)) kept recomputed)) × Holds (step (truthOf (now (edges .entry)) (now (figures .entry))) k (progressOf (now (figures .entry)) (now (marks .entry)) (now (taken .entry)) (now (entries .entry)) kept recomputed)) (now (figures .exit)) (now (marks .exit)) (now (taken .exit)) (now (entries .entry)) (now (entries .exit)) (r .kept) (r .recomputed) ⌝ }
 {
     let p = next_node(figures, taken);
+    let done = Turn {
+        stopped: true,
+        kept,
+        recomputed,
+    };
     if figures.len() <= p {
-        return Turn {
-            stopped: true,
-            kept,
-            recomputed,
-        };
+        return done;
     }
     let f = figures[p];
     if stops_at(entries, kept, k, p as u64, f) {
-        return Turn {
-            stopped: true,
-            kept,
-            recomputed,
-        };
+        return done;
     }
     take_node(
         edges,
