@@ -5,6 +5,7 @@ pub mod Filter
 pub mod Least
 pub mod ListSums
 pub mod Members
+pub mod Padded
 pub mod Pairs
 pub mod Places
 pub mod Range

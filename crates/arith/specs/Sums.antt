@@ -2,7 +2,7 @@
 use mathlib.Core.Bool.{Bool, true, false, _||_}
 use mathlib.Core.List.{List, [], _∷_, _++_}
 use Prim.Native.Nat.{ℕ, zero, suc, _+_, _*_, _^_}
-use lib.ListN.{set}
+use lib.ListN.{getD, set}
 
 -- f 0 + .. + f (n - 1)
 unfoldable pub sumTo : (ℕ → ℕ) → ℕ → ℕ
@@ -37,3 +37,7 @@ module _ {A : Type 0} where
   unfoldable pub fillTo : (ℕ → A) → List A → ℕ → List A
   fillTo f l zero = l
   fillTo f l (suc n) = set (fillTo f l n) n (f n)
+
+-- the first m elements of the list, and 0 in the places past its end
+unfoldable pub padded : ℕ → List ℕ → List ℕ
+padded m xs = tabulate (λ i. getD xs i 0) m

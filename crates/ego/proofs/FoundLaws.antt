@@ -3,25 +3,25 @@ use mathlib.Core.Bool.{_&&_, Bool, false, true}
 use mathlib.Core.List.{_++_, [], append-nil, List, _∷_}
 use mathlib.Core.Path.{ap, ap₂, refl, subst, subst₂, sym, _∙_, _≡_}
 use Prim.Native.Nat.{_+_, _-_, _<_, zero-le, ℕ, _≤_}
-use native.Mathlib.Decide.{le-ind, ℕ-discrete}
+use native.Mathlib.Decide.{le-ind}
 use native.Mathlib.Nat.{le-antisymm, le-refl}
 use native.Mathlib.Numerals.{add-one}
 use native.Mathlib.Omega.{arith}
-use lib.ListN.{getD, length, length-append, length-replicate, length-set, List·getD-append, replicate, set}
-use lib.Seq.{getD-at, getD-set-other, getD-set-same}
+use lib.ListN.{getD, length, length-append, replicate, set}
 use Rattle.arith.proofs.Filter.{count-most, mem-filter}
+use Rattle.arith.proofs.Padded.{getD-padded, padded-full, padded-none, padded-push}
 use Rattle.arith.proofs.Places.{count-places, pairs-places}
 use Rattle.arith.proofs.Range.{count-range, filter-last, length-range, mem-place, mem-range, up-places}
 use Rattle.arith.proofs.Sums.{countTo-ext, sumTo-ext}
-use Rattle.arith.proofs.Tests.{each}
 use Rattle.arith.specs.Lists.{consIf, range}
-use Rattle.arith.specs.Sums.{countTo, sumTo}
+use Rattle.arith.specs.Sums.{countTo, padded, sumTo}
 use Rattle.ego.proofs.Shares.{derived, neighbours-up}
 use Rattle.ego.specs.Derived.{common, pairScore, portion}
 use Rattle.ego.specs.Graph.{degree, Graph, neighbours, Simple}
 use Rattle.ego.specs.Limits.{limit}
 use Rattle.ego.specs.Score.{score}
-use Rattle.ego.specs.Words.{Ascending, Found, linkAt, scoreAt}
+use Rattle.ego.specs.Words.{Ascending, firstNeighbours, linkAt, scoreAt}
+use Rattle.ego.specs.declared.neighbours.Neighbours.{Neighbours}
 use Rattle.packed.proofs.EdgeLaws.{edge-comm, edge-self}
 use Rattle.packed.proofs.PairLaws.{room-mono}
 use Rattle.packed.proofs.RowLaws.{passed}
@@ -43,13 +43,18 @@ neighbours-more : (g : Graph) (q p : ℕ) → neighbours g (q + 1) p ≡ neighbo
 unfolding neighbours
 neighbours-more g q p = rw add-one (filter-last (g p) q)
 
+-- the neighbours of p below q, as the loop holds them
+pub record Found (es : List ℕ) (q p : ℕ) (nodes : List ℕ) (count : ℕ) : Type 0 where
+  pub first : nodes ≡ padded limit (neighbours (edge es) q p)
+  pub all : count ≡ length (neighbours (edge es) q p)
+
 pub found-few : {es nodes : List ℕ} {q p count : ℕ} → Found es q p nodes count → count ≤ q
 unfolding neighbours
 found-few {es} {q = q} {p = p} f = omega (arith, f .all, count-most (edge es p) (range 0 q), length-range 0 q)
 
 pub found-none : (es : List ℕ) (p : ℕ) → Found es 0 p (replicate limit 0) 0
 unfolding neighbours
-found-none es p = record { size = length-replicate {A = ℕ} limit 0; all = refl; each = λ i h l. absurd (omega arith) }
+found-none es p = record { first = padded-none limit; all = refl }
 
 module _ {es nodes : List ℕ} {q p count : ℕ} (f : Found es q p nodes count) where
   more : (t : Bool) → edge es p q ≡ t → neighbours (edge es) (q + 1) p ≡ neighbours (edge es) q p ++ consIf t q []
@@ -57,31 +62,23 @@ module _ {es nodes : List ℕ} {q p count : ℕ} (f : Found es q p nodes count) 
 
   pub found-skip : edge es p q ≡ false → Found es (q + 1) p nodes count
   found-skip e =
-      let same = more false e ∙ append-nil (neighbours (edge es) q p) in
-      record { size = f .size; all = f .all ∙ ap length (sym same); each = λ i h l. f .each i h l ∙ ap (λ xs. getD xs i 0) (sym same) }
+      let same = sym (more false e ∙ append-nil (neighbours (edge es) q p)) in
+      record { first = f .first ∙ ap (padded limit) same; all = f .all ∙ ap length same }
 
   pushed : edge es p q ≡ true → count + 1 ≡ length (neighbours (edge es) (q + 1) p)
   pushed e = sym (ap length (more true e) ∙ length-append (neighbours (edge es) q p) (q ∷ []) ∙ ap (λ m. m + 1) (sym (f .all)))
 
-  earlier : edge es p q ≡ true → (i : ℕ) → i < count → i < limit → getD nodes i 0 ≡ getD (neighbours (edge es) (q + 1) p) i 0
-  earlier e i h l =
-      f .each i h l
-      ∙ sym (ap (λ xs. getD xs i 0) (more true e) ∙ List·getD-append (neighbours (edge es) q p) (q ∷ []) 0 i (omega (arith, f .all)))
-
   pub found-push : edge es p q ≡ true → count < limit → Found es (q + 1) p (set nodes count q) (count + 1)
   found-push e room = record {
-    size = length-set nodes count q ∙ f .size;
+    first = ap (λ xs. set xs count q) (f .first) ∙ padded-push limit (neighbours (edge es) q p) q (f .all) room ∙ ap (padded limit) (sym (more true e));
     all = pushed e;
-    each = λ i h l. elim (ℕ-discrete i count) [
-      | yes s ↦
-          rw s (getD-set-same nodes count q 0 (omega (arith, f .size))
-          ∙ sym (ap (λ xs. getD xs count 0) (more true e) ∙ getD-at (neighbours (edge es) q p) q [] 0 count (sym (f .all))))
-      | no d ↦ getD-set-other nodes count i q 0 d ∙ earlier e i (omega arith) l
-    ];
   }
 
   pub found-past : edge es p q ≡ true → limit ≤ count → Found es (q + 1) p nodes (count + 1)
-  found-past e full = record { size = f .size; all = pushed e; each = λ i h l. earlier e i (omega arith) l }
+  found-past e full = record {
+    first = f .first ∙ padded-full limit (neighbours (edge es) q p) (q ∷ []) (omega (arith, f .all)) ∙ ap (padded limit) (sym (more true e));
+    all = pushed e;
+  }
 
 -- nodes that are not linked leave what was found
 pub found-until : {es nodes : List ℕ} {q p count : ℕ} (j : ℕ) → Found es q p nodes count → q ≤ j
@@ -107,6 +104,16 @@ found-as {es} {q = q} {p = p} a b f = subst₂ (Found es q p) (sym a) (sym b) f
 pub found-end : {es nodes : List ℕ} {q n p count : ℕ} → q ≤ n → n ≤ q → Found es q p nodes count → Found es n p nodes count
 found-end {es} {nodes} {p = p} {count = count} a b f = subst (λ m. Found es m p nodes count) (le-antisymm a b) f
 
+-- ---- the struct that holds what was found
+
+pub found-is : {es nodes : List ℕ} {n p count : ℕ} → Found es n p nodes count → _≡_ {A = Neighbours} (record { nodes = nodes; count = count }) (firstNeighbours es n p)
+unfolding degree firstNeighbours
+found-is f = rw (f .first, f .all)
+
+pub found-of : {es : List ℕ} {n p : ℕ} {r : Neighbours} → r ≡ firstNeighbours es n p → Found es n p (r .nodes) (r .count)
+unfolding degree firstNeighbours
+found-of e = record { first = ap (λ r. r .nodes) e; all = ap (λ r. r .count) e }
+
 pub found-degree : {es nodes : List ℕ} {n p count : ℕ} → Found es n p nodes count → count ≡ degree (edge es) n p
 unfolding degree
 found-degree f = f .all
@@ -114,8 +121,8 @@ found-degree f = f .all
 -- ---- the nodes that were found
 
 module _ {es nodes : List ℕ} {n p d : ℕ} (f : Found es n p nodes d) (few : d ≤ limit) where
-  node-is : (i : ℕ) → i < d → getD nodes i 0 ≡ getD (neighbours (edge es) n p) i 0
-  node-is i h = f .each i h (omega arith)
+  pub node-is : (i : ℕ) → i < d → getD nodes i 0 ≡ getD (neighbours (edge es) n p) i 0
+  node-is i h = ap (λ xs. getD xs i 0) (f .first) ∙ getD-padded limit (neighbours (edge es) n p) i (omega arith)
 
   below : (i : ℕ) → i < d → getD nodes i 0 < n
   unfolding neighbours

@@ -3,11 +3,12 @@ use crate::limits::LIMIT;
 use packed::bits::get;
 use packed::bits::next_set;
 use packed::edges::row_start;
+ghost use mathlib.Core.Path.{_≡_};
 ghost use Prim.Native.Nat.{_+_, _<_};
 ghost use Rattle.packed.specs.Pairs.{Room};
-ghost use Rattle.ego.specs.Words.{Found};
+ghost use Rattle.ego.specs.Words.{firstNeighbours};
 
-// How many neighbours a node has, and the first of them, in order.
+// How many neighbours a node has, and the first of them, in order; 0 in the places past them.
 pub struct Neighbours {
     pub nodes: [usize; LIMIT],
     pub count: usize,
@@ -16,7 +17,7 @@ pub struct Neighbours {
 // The neighbours of p below p.
 fn neighbours_below(edges: &[u8], p: usize) -> Neighbours
     requires { ⌜ Room (p + 1) (now edges) ⌝ }
-    ensures { λ r. ⌜ Found (now (edges .entry)) p p (r .nodes) (r .count) ⌝ }
+    ensures { λ r. ⌜ r ≡ firstNeighbours (now (edges .entry)) p p ⌝ }
 {
     let start = row_start(p);
     let mut nodes = [0usize; LIMIT];
@@ -34,8 +35,8 @@ fn neighbours_below(edges: &[u8], p: usize) -> Neighbours
 
 // The neighbours of p, where `below` has those below p. The bit of p and q + 1 is q bits after that of p and q.
 fn neighbours_above(edges: &[u8], n: usize, p: usize, below: Neighbours) -> Neighbours
-    requires { ⌜ (p < n) × Room n (now edges) × Found (now edges) p p (below .nodes) (below .count) ⌝ }
-    ensures { λ r. ⌜ Found (now (edges .entry)) n p (r .nodes) (r .count) ⌝ }
+    requires { ⌜ (p < n) × Room n (now edges) × (below ≡ firstNeighbours (now edges) p p) ⌝ }
+    ensures { λ r. ⌜ r ≡ firstNeighbours (now (edges .entry)) n p ⌝ }
 {
     let mut nodes = below.nodes;
     let mut count = below.count;
@@ -55,7 +56,7 @@ fn neighbours_above(edges: &[u8], n: usize, p: usize, below: Neighbours) -> Neig
 // The neighbours of p.
 pub fn neighbours_of(edges: &[u8], n: usize, p: usize) -> Neighbours
     requires { ⌜ (p < n) × Room n (now edges) ⌝ }
-    ensures { λ r. ⌜ Found (now (edges .entry)) n p (r .nodes) (r .count) ⌝ }
+    ensures { λ r. ⌜ r ≡ firstNeighbours (now (edges .entry)) n p ⌝ }
 {
     neighbours_above(edges, n, p, neighbours_below(edges, p))
 }

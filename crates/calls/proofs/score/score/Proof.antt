@@ -3,7 +3,7 @@ use mathlib.Core.Path.{_∙_}
 use native.Mathlib.Omega.{arith}
 use borrow.Author.Needs.{needs}
 use denote.Ref.{now}
-use Rattle.ego.proofs.FoundLaws.{found-ascending, found-degree, found-score}
+use Rattle.ego.proofs.FoundLaws.{found-ascending, found-degree, found-of, found-score}
 use Rattle.state.proofs.RefusalLaws.{sized-by, sized-room}
 use Rattle.calls.proofs.ScoreLaws.{score-accepted, score-crowded, score-node, score-sizes}
 use Rattle.calls.proofs.score.score.Statement.{statement}
@@ -43,12 +43,12 @@ returns-3 c =
     let s = at-edge-refusal .before .before in
     let sizes = sized-by (at-edge-refusal .edge-refusal .ensures) (at-if1 .if1 .left) in
     c .refused3 .ensures
-    ∙ score-crowded (now (s .args .edges)) (s .args .n) (s .args .p) sizes (at-if2 .if2 .left) (omega (arith, found-degree (c .before .before .neighbours-of .ensures)))
+    ∙ score-crowded (now (s .args .edges)) (s .args .n) (s .args .p) sizes (at-if2 .if2 .left) (omega (arith, found-degree (found-of (c .before .before .neighbours-of .ensures))))
 
 score-of-requires : tie.Need-score-of-requires
 score-of-requires c κs =
     let sizes = sized-by (c .before .before .before .before .before .edge-refusal .ensures) (c .before .before .before .before .if1 .left) in
-    found-ascending (c .before .before .neighbours-of .ensures) (c .before .if3 .left) (sized-room sizes)
+    found-ascending (found-of (c .before .before .neighbours-of .ensures)) (c .before .if3 .left) (sized-room sizes)
 
 returns-4 : tie.Need-returns-4
 returns-4 c =
@@ -57,7 +57,7 @@ returns-4 c =
     let at-if1 = at-if2 .before in
     let at-edge-refusal = at-if1 .before in
     let s = at-edge-refusal .before .before in
-    let found = at-neighbours-of .neighbours-of .ensures in
+    let found = found-of (at-neighbours-of .neighbours-of .ensures) in
     let few = c .before .before .if3 .left in
     score-accepted (now (s .args .edges)) (s .args .n) (s .args .p)
     (sized-by (at-edge-refusal .edge-refusal .ensures) (at-if1 .if1 .left))

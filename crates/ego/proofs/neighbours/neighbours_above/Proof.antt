@@ -5,8 +5,7 @@ use mathlib.Core.Path.{ap, refl, sym, _∙_, _≡_}
 use Prim.Native.Nat.{_+_, _-_, _<_, _≤_}
 use native.Mathlib.Omega.{arith}
 use Rattle.arith.specs.Lists.{count}
-use Rattle.ego.proofs.FoundLaws.{found-as, found-end, found-few, found-past, found-push, found-skip}
-use Rattle.ego.specs.Words.{Found}
+use Rattle.ego.proofs.FoundLaws.{Found, found-as, found-end, found-few, found-is, found-of, found-past, found-push, found-skip}
 use Rattle.packed.proofs.EdgeLaws.{edge-self}
 use Rattle.packed.proofs.RowLaws.{column-more, column-within, edge-above, pairs-few}
 use Rattle.packed.specs.Bits.{bitAt}
@@ -35,7 +34,7 @@ add-q c = omega arith
 loop-holds : tie.Need-loop-holds Inv-loop μ-loop
 loop-holds c =
     let s = c .before .before .before in
-    (omega arith, omega arith, omega (arith, c .row-start .ensures), found-skip (s .pre .2) (edge-self (s .args .edges .now) (s .args .p) (s .args .p) refl))
+    (omega arith, omega arith, omega (arith, c .row-start .ensures), found-skip (found-of (s .pre .2)) (edge-self (s .args .edges .now) (s .args .p) (s .args .p) refl))
 
 get-requires : tie.Need-get-requires Inv-loop μ-loop
 get-requires c κs =
@@ -87,7 +86,7 @@ loop-again c =
     )
 
 returns : tie.Need-returns Inv-loop μ-loop
-returns c = found-end (c .before .loop .inv .1) (c .loop-test .left) (c .before .loop .inv .3)
+returns c = found-is (found-end (c .before .loop .inv .1) (c .loop-test .left) (c .before .loop .inv .3))
 
 pub neighbours-above-spec : {M : Type 1} → statement M
 neighbours-above-spec =

@@ -5,8 +5,7 @@ use mathlib.Core.Path.{refl}
 use Prim.Native.Nat.{_+_, _-_}
 use native.Mathlib.Omega.{arith}
 use Rattle.arith.specs.Lists.{count}
-use Rattle.ego.proofs.FoundLaws.{found-as, found-end, found-few, found-past, found-push, row-more, row-none}
-use Rattle.ego.specs.Words.{Found}
+use Rattle.ego.proofs.FoundLaws.{Found, found-as, found-end, found-few, found-is, found-past, found-push, row-more, row-none}
 use Rattle.packed.proofs.RowLaws.{reached, Reached, row-few, row-within}
 use Rattle.ego.proofs.neighbours.neighbours_below.Statement.{statement}
 use Rattle.ego.proofs.neighbours.neighbours_below.Tie as tie
@@ -82,7 +81,7 @@ loop-again c =
     )
 
 returns : tie.Need-returns Inv-loop μ-loop
-returns c = found-end (omega (arith, c .before .loop .inv .0 .high)) (omega arith) (c .before .loop .inv .1)
+returns c = found-is (found-end (omega (arith, c .before .loop .inv .0 .high)) (omega arith) (c .before .loop .inv .1))
 
 pub neighbours-below-spec : {M : Type 1} → statement M
 neighbours-below-spec =

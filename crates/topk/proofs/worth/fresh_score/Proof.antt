@@ -2,7 +2,7 @@
 use mathlib.Core.Path.{_∙_}
 use native.Mathlib.Omega.{arith}
 use borrow.Author.Needs.{needs}
-use Rattle.ego.proofs.FoundLaws.{found-ascending, found-degree, found-score}
+use Rattle.ego.proofs.FoundLaws.{found-ascending, found-degree, found-of, found-score}
 use Rattle.topk.proofs.worth.fresh_score.Statement.{statement}
 use Rattle.topk.proofs.worth.fresh_score.Tie as tie
 
@@ -12,13 +12,13 @@ neighbours-of-requires c κs = search needs
 score-of-requires : tie.Need-score-of-requires
 score-of-requires c κs =
     let s = c .before .before .before in
-    let found = c .before .neighbours-of .ensures in
+    let found = found-of (c .before .neighbours-of .ensures) in
     found-ascending found (omega (arith, found-degree found, s .pre .1 .few (s .args .p) (s .pre .0))) (s .pre .1 .room)
 
 returns : tie.Need-returns
 returns c =
     let s = c .before .before .before .before in
-    let found = c .before .before .neighbours-of .ensures in
+    let found = found-of (c .before .before .neighbours-of .ensures) in
     c .score-of .ensures ∙ found-score found (omega (arith, found-degree found, s .pre .1 .few (s .args .p) (s .pre .0)))
 
 pub fresh-score-spec : {M : Type 1} → statement M
