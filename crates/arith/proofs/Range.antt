@@ -13,7 +13,7 @@ use Rattle.arith.proofs.Filter.{filter-append}
 use Rattle.arith.proofs.Members.{Distinct}
 use Rattle.arith.proofs.Tests.{eqb-same, test}
 use Rattle.arith.specs.Lists.{concatMap, consIf, count, filter, range}
-use Rattle.arith.specs.Sums.{countTo, sumTo}
+use Rattle.arith.specs.Sums.{countTo, sumTo, tabulate}
 
 abbrev pub Up : ℕ → List ℕ → Type 0
 Up k [] = Unit {0}
@@ -59,6 +59,11 @@ range-mem k (suc n) h l =
 pub range-last : (k n : ℕ) → range k (suc n) ≡ range k n ++ (k + n) ∷ []
 range-last k zero = ap (λ i. i ∷ []) (sym (add-zero k))
 range-last k (suc n) = ap (λ l. k ∷ l) (range-last (suc k) n ∙ ap (λ i. range (suc k) n ++ i ∷ []) (suc-add k n ∙ sym (add-suc k n)))
+
+pub tabulate-range : (n : ℕ) → tabulate (λ i. i) n ≡ range 0 n
+unfolding tabulate
+tabulate-range zero = refl
+tabulate-range (suc n) = ap (λ l. l ++ n ∷ []) (tabulate-range n) ∙ sym (range-last 0 n ∙ ap (λ i. range 0 n ++ i ∷ []) (zero-add n))
 
 pub filter-last : (q : ℕ → Bool) (n : ℕ) → filter q (range 0 (suc n)) ≡ filter q (range 0 n) ++ consIf (q n) n []
 filter-last q n = ap (filter q) (range-last 0 n ∙ ap (λ i. range 0 n ++ i ∷ []) (zero-add n)) ∙ filter-append q (range 0 n) (n ∷ [])

@@ -20,7 +20,7 @@ use Rattle.packed.proofs.EdgeLaws.{edge-self, edge-with-other, length-with-edge
 use Rattle.packed.specs.Bits.{Bytes}
 use Rattle.packed.specs.Edges.{edge, withEdge}
 use Rattle.packed.specs.Pairs.{maxNodes, Room}
-use Rattle.edits.proofs.ListedLaws.{bound-each-is, listed-ends, listed-touched, over-is, stale-each-is}
+use Rattle.edits.proofs.ListedLaws.{bound-each-is, Degrees, listed-ends, listed-touched, over-is, stale-each-is, Touched}
 use Rattle.calls.proofs.OutcomeLaws.{state-is}
 use Rattle.edits.proofs.PairRefusals.{accepted-nodes, first-full, first-gains, first-loses, Nodes, not-full, pair-append, pairConditions, second-full, second-gains, second-loses}
 use Rattle.state.proofs.RefusalLaws.{passed-absent, passed-before, passed-present, refusal-none, refused-absent, refused-before, refused-present}
@@ -29,7 +29,7 @@ use Rattle.state.specs.Marks.{markBytes, staleTo}
 use Rattle.state.specs.Outcome.{state}
 use Rattle.state.specs.Refusal.{crowdedAfter, crowdedBefore, edgeAbsent, edgePresent, ends, refusal, tooMany, touched}
 use Rattle.state.specs.State.{graph, size, State}
-use Rattle.edits.specs.Touched.{boundEach, Degrees, maxTouched, staleEach, Touched}
+use Rattle.edits.specs.Touched.{boundEach, maxTouched, staleEach}
 
 -- ---- what is written
 

@@ -4,18 +4,34 @@ use Prim.Native.Nat.{_≤_}
 use native.Mathlib.Nat.{le-refl}
 use native.Mathlib.Omega.{arith}
 use borrow.Author.Needs.{needs}
+use denote.Ref.{now}
+use lib.ListN.{length}
 use Rattle.ego.proofs.FoundLaws.{degree-is}
 use Rattle.ego.specs.Graph.{degree}
 use Rattle.packed.proofs.PairLaws.{room-within}
 use Rattle.edits.proofs.ApplyLaws.{applied-by, bound-ready, mark-ready, renewed-within, room-kept}
+use Rattle.edits.proofs.ListedLaws.{degrees-by, Touched, touched-by}
+use Rattle.edits.specs.Touched.{maxTouched}
 use Rattle.edits.proofs.edit.apply.Statement.{statement}
 use Rattle.edits.proofs.edit.apply.Tie as tie
+
+-- the touched nodes
+abbrev start1 : tie.After-touched-of → tie.Start
+start1 c = c .before .before .before .before .before
+
+touching : (c : tie.After-touched-of)
+    → Touched (now (start1 c .args .edges)) (length (now (start1 c .args .figures))) (start1 c .args .a) (start1 c .args .b)
+    (c .touched-of .result .nodes) (c .touched-of .result .count)
+touching c = let e = start1 c .pre in touched-by _ _ _ _ (e .room .few) (e .firstBelow) (e .secondBelow) (c .touched-of .ensures)
 
 -- the ends are among those that take their bounds, and these among the touched
 within : (c : tie.After-renewed-count) → (2 ≤ c .renewed-count .result) × (c .renewed-count .result ≤ c .before .before .touched-of .result .count)
 within c =
-    let s = c .before .before .before .before .before .before .before in
-    renewed-within (s .args .on) (c .renewed-count .ensures) (c .before .before .touched-of .ensures .0 .two)
+    let s = start1 (c .before .before) in
+    renewed-within (s .args .on) (c .renewed-count .ensures) (touching (c .before .before) .two)
+
+few : (c : tie.After-renewed-count) → c .renewed-count .result ≤ maxTouched
+few c = omega (arith, within c .1, touching (c .before .before) .few)
 
 touched-of-requires : tie.Need-touched-of-requires
 touched-of-requires c κs = search needs
@@ -37,12 +53,12 @@ degrees-of-requires c κs =
     let here = at-link .before .before in
     let at-touched-of = here .before .before in
     let s = at-touched-of .before .before .before .before .before in
-    let t = at-touched-of .touched-of .ensures .0 in
+    let t = touching at-touched-of in
     let w = within here in (
       room-kept (s .args .a) (s .args .b) (s .args .on) (at-link .link .ensures) (s .pre .room),
       c .degree .ensures ∙ sym (degree-is _ _ _) ∙ ap (degree _ _) (sym (t .first)),
       omega (arith, w .0),
-      omega (arith, w .1, t .few),
+      few here,
       λ i h. t .below i (omega (arith, w .1)),
     )
 
@@ -50,7 +66,7 @@ mark-each-requires : tie.Need-mark-each-requires
 mark-each-requires c κs =
     let at-touched-of = c .before .before .before .before .before .before .before .before .before .before in
     let s = at-touched-of .before .before .before .before .before in
-    mark-ready (s .pre) (at-touched-of .touched-of .ensures .0)
+    mark-ready (s .pre) (touching at-touched-of)
 
 bound-each-requires : tie.Need-bound-each-requires
 bound-each-requires c κs =
@@ -58,7 +74,7 @@ bound-each-requires c κs =
     let here = at-degrees-of .before .before .before .before .before .before .before in
     let at-touched-of = here .before .before in
     let s = at-touched-of .before .before .before .before .before in
-    bound-ready (s .pre) (at-touched-of .touched-of .ensures .0) (le-refl _) (within here .1) (at-degrees-of .degrees-of .ensures)
+    bound-ready (s .pre) (touching at-touched-of) (le-refl _) (within here .1) (degrees-by _ _ _ (few here) (at-degrees-of .degrees-of .ensures))
 
 same-length : tie.Need-same-length
 same-length c = search needs
@@ -78,7 +94,9 @@ returns c =
     let at-touched-of = at-renewed-count .before .before in
     let at-slice-known3 = at-touched-of .before .before in
     let s = at-slice-known3 .before .before .before in
-    applied-by (s .pre) (at-touched-of .touched-of .ensures .0) (λ k. at-slice-known3 .slice-known3 .given k .fits) (at-mark-each .mark-each .ensures) (s .args .on) (at-link .link .ensures) (at-renewed-count .renewed-count .ensures) (at-degrees-of .degrees-of .ensures) (c .before .before .bound-each .ensures)
+    applied-by (s .pre) (touching at-touched-of) (λ k. at-slice-known3 .slice-known3 .given k .fits) (at-mark-each .mark-each .ensures) (s .args .on)
+    (at-link .link .ensures) (at-renewed-count .renewed-count .ensures) (degrees-by _ _ _ (few at-renewed-count) (at-degrees-of .degrees-of .ensures))
+    (c .before .before .bound-each .ensures)
 
 pub apply-spec : {M : Type 1} → statement M
 apply-spec =

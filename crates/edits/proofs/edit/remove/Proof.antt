@@ -11,6 +11,7 @@ use Rattle.ego.specs.Graph.{degree}
 use Rattle.packed.proofs.PairLaws.{room-within}
 use Rattle.packed.specs.Edges.{edge}
 use Rattle.edits.proofs.ApplyLaws.{bound-ready, lost-at, lost-ready, mark-ready, Pair, present-by, remove-accepted, remove-crowded, removed-by}
+use Rattle.edits.proofs.ListedLaws.{Degrees, degrees-by, Touched, touched-by, touching-degree}
 use Rattle.calls.proofs.OutcomeLaws.{call-accepted, call-refused, lengths-refused}
 use Rattle.edits.proofs.PairRefusals.{editable, pairConditions}
 use Rattle.state.proofs.RefusalLaws.{append-refused, Fitted, fitted-by, sized-room}
@@ -41,6 +42,23 @@ pair c = present-by (c .before .remove-refusal .ensures) (c .if2 .left)
 room : (c : tie.Else2) → Editable (given (start2 c)) (start2 c .args .a) (start2 c .args .b)
 room c = editable (fits (c .before .before .before)) (pair c .nodes)
 
+-- the touched nodes, and their degrees
+abbrev start3 : tie.After-touched-of → tie.Start
+start3 c = start2 (c .before .before)
+
+touching : (c : tie.After-touched-of)
+    → Touched (now (start3 c .args .edges)) (length (now (start3 c .args .figures))) (start3 c .args .a) (start3 c .args .b)
+    (c .touched-of .result .nodes) (c .touched-of .result .count)
+touching c = let e = room (c .before .before) in touched-by _ _ _ _ (e .room .few) (e .firstBelow) (e .secondBelow) (c .touched-of .ensures)
+
+abbrev listedAt : tie.After-degrees-of → tie.After-touched-of
+listedAt c = c .before .before .before
+
+counted : (c : tie.After-degrees-of)
+    → Degrees (edge (now (start3 (listedAt c) .args .edges))) (length (now (start3 (listedAt c) .args .figures)))
+    (listedAt c .touched-of .result .nodes) (c .degrees-of .result) (listedAt c .touched-of .result .count)
+counted c = degrees-by _ _ _ (touching (listedAt c) .few) (c .degrees-of .ensures)
+
 state-refusal-requires : tie.Need-state-refusal-requires
 state-refusal-requires c κs = search needs
 
@@ -69,12 +87,12 @@ touched-of-requires c κs =
 
 degrees-of-requires : tie.Need-degrees-of-requires
 degrees-of-requires c κs =
-    let found = c .before .before .touched-of .ensures in
-    let t = found .0 in
-    (room (c .before .before .before .before) .room, found .1 ∙ ap (degree _ _) (sym (t .first)), omega (arith, t .two), t .few, t .below)
+    let t = touching (c .before .before) in
+    let first = touching-degree _ _ _ _ (c .before .before .touched-of .ensures) in
+    (room (c .before .before .before .before) .room, first ∙ ap (degree _ _) (sym (t .first)), omega (arith, t .two), t .few, t .below)
 
 any-above-requires : tie.Need-any-above-requires
-any-above-requires c κs = c .before .before .before .touched-of .ensures .0 .few
+any-above-requires c κs = touching (listedAt c) .few
 
 same-length-2 : tie.Need-same-length-2
 same-length-2 c = search needs
@@ -87,7 +105,7 @@ returns-3 c =
     let sized = paired .before .before .before in
     let s = sized .before .before .before .before .before in
     call-refused (given s) _ _ (fits sized)
-    (remove-crowded (room paired .room) (at-touched-of .touched-of .ensures .0) (c .before .before .degrees-of .ensures) (pair paired) (sym (c .before .any-above .ensures) ∙ c .if3 .taken)) (λ e. omega arith)
+    (remove-crowded (room paired .room) (touching at-touched-of) (counted (c .before .before)) (pair paired) (sym (c .before .any-above .ensures) ∙ c .if3 .taken)) (λ e. omega arith)
 
 link-requires : tie.Need-link-requires
 link-requires c κs =
@@ -100,14 +118,14 @@ mark-each-requires : tie.Need-mark-each-requires
 mark-each-requires c κs =
     let at-touched-of = c .before .before .before .before .before .before .before .before .before .before in
     let paired = at-touched-of .before .before in
-    mark-ready (room paired) (at-touched-of .touched-of .ensures .0)
+    mark-ready (room paired) (touching at-touched-of)
 
 lost-requires : tie.Need-lost-requires
 lost-requires c κs =
     let at-degrees-of = c .before .before .before .before .before .before .before .before .before .before .before in
     let at-touched-of = at-degrees-of .before .before .before in
     let paired = at-touched-of .before .before in
-    lost-ready (room paired .room) (at-touched-of .touched-of .ensures .0) (at-degrees-of .degrees-of .ensures) (pair paired)
+    lost-ready (room paired .room) (touching at-touched-of) (counted at-degrees-of) (pair paired)
 
 bound-each-requires : tie.Need-bound-each-requires
 bound-each-requires c κs =
@@ -116,8 +134,8 @@ bound-each-requires c κs =
     let at-touched-of = at-degrees-of .before .before .before in
     let paired = at-touched-of .before .before in
     let e = room paired in
-    let t = at-touched-of .touched-of .ensures .0 in
-    bound-ready e t (omega (arith, t .two)) (le-refl _) (lost-at (e .room) t (at-degrees-of .degrees-of .ensures) (pair paired) (at-link .link .ensures) (c .lost .ensures))
+    let t = touching at-touched-of in
+    bound-ready e t (omega (arith, t .two)) (le-refl _) (lost-at (e .room) t (counted at-degrees-of) (pair paired) (at-link .link .ensures) (c .lost .ensures))
 
 same-length-3 : tie.Need-same-length-3
 same-length-3 c = search needs
@@ -143,8 +161,8 @@ returns-4 c =
     let at-slice-known3 = sized .before .before in
     let s = at-slice-known3 .before .before .before in
     let e = room paired in
-    let t = at-touched-of .touched-of .ensures .0 in
-    let d = at-degrees-of .degrees-of .ensures in
+    let t = touching at-touched-of in
+    let d = counted at-degrees-of in
     let p = pair paired in
     call-accepted (given s) _ _ (fits sized) (remove-accepted (e .room) t d p (sym (at-any-above .any-above .ensures) ∙ at-if3 .if3 .left)) refl
     (removed-by e t (λ k. at-slice-known3 .slice-known3 .given k .fits) (at-mark-each .mark-each .ensures) (at-link .link .ensures) (lost-at (e .room) t d p (at-link .link .ensures) (at-lost .lost .ensures)) (c .before .before .bound-each .ensures))
