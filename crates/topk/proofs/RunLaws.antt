@@ -13,8 +13,8 @@ use Rattle.topk.proofs.TurnLaws.{counts, steps-still, still}
 use Rattle.topk.specs.Steps.{listed, Progress, start, step, steps}
 use Rattle.topk.specs.Turns.{Holds, listOf, progressOf, stopped, truthOf, Written}
 
-holds-written : {s : Progress} {F M S E₀ E : List ℕ} {m r : ℕ} → Holds s F M S E₀ E m r → Written s F M E₀ E r
-holds-written h = record { figuresAre = h .figuresAre; marksAre = h .marksAre; entriesAre = h .entriesAre; recomputedIs = h .recomputedIs }
+holds-written : {s : Progress} {F M S E₀ E : List ℕ} {m r : ℕ} → Holds s F M S E₀ E m r → Written s F M E₀ E r × (S ≡ s .taken)
+holds-written h = (record { figuresAre = h .figuresAre; marksAre = h .marksAre; entriesAre = h .entriesAre; recomputedIs = h .recomputedIs }, h .takenAre)
 
 module _ (edges : List ℕ) (k : ℕ) (F₀ M₀ E₀ : List ℕ) where
   abbrev T : ℕ → ℕ
@@ -28,7 +28,7 @@ module _ (edges : List ℕ) (k : ℕ) (F₀ M₀ E₀ : List ℕ) where
   run-starts e = record { figuresAre = refl; marksAre = refl; takenAre = e; entriesAre = refl; keptIs = refl; recomputedIs = refl }
 
   pub run-ends : {F M S E : List ℕ} {m r : ℕ} (i : ℕ) → i ≤ length F₀ → length F₀ ≤ i → Holds (after i) F M S E₀ E m r
-      → Written (listOf edges k F₀ M₀) F M E₀ E r
+      → Written (listOf edges k F₀ M₀) F M E₀ E r × (S ≡ listOf edges k F₀ M₀ .taken)
   unfolding listed
   run-ends {F} {M} {S} {E} {m} {r} i l g h = holds-written (subst (λ (n : ℕ). Holds (after n) F M S E₀ E m r) (le-antisymm l g) h)
 
@@ -44,7 +44,7 @@ module _ (edges : List ℕ) (k : ℕ) (F₀ M₀ E₀ : List ℕ) where
     unfolding steps
     run-goes = rw add-one turned
 
-    pub run-stops : {b : Bool} → b ≡ stopped k (progressOf F M S E m r) → b ≡ true → Written (listOf edges k F₀ M₀) F′ M′ E₀ E′ r′
+    pub run-stops : {b : Bool} → b ≡ stopped k (progressOf F M S E m r) → b ≡ true → Written (listOf edges k F₀ M₀) F′ M′ E₀ E′ r′ × (S′ ≡ listOf edges k F₀ M₀ .taken)
     unfolding listed
     run-stops u e =
         let d : stopped k (after i) ≡ true = ap (stopped k) (sym (progress-is (after i) F M S E₀ E m r h)) ∙ sym u ∙ e in

@@ -86,7 +86,7 @@ fn one_turn(
     )
 }
 
-// All turns, from no node taken. Returns how many nodes were recomputed.
+// All turns, from no node taken; `taken` is left as after the last. Returns how many nodes were recomputed.
 pub(crate) fn run(
     edges: &[u8],
     figures: &mut [u64],
@@ -96,7 +96,7 @@ pub(crate) fn run(
     k: usize,
 ) -> u64
     requires { ⌜ Scorable (length (now figures)) (now edges) × (markBytes (length (now figures)) ≤ length (now marks)) × (now taken ≡ replicate (length (now figures)) 0) × (2 * k ≤ length (now entries)) × (0 < k) ⌝ }
-    ensures { λ r. ⌜ Written (listOf (now (edges .entry)) k (now (figures .entry)) (now (marks .entry))) (now (figures .exit)) (now (marks .exit)) (now (entries .entry)) (now (entries .exit)) r ⌝ }
+    ensures { λ r. ⌜ Written (listOf (now (edges .entry)) k (now (figures .entry)) (now (marks .entry))) (now (figures .exit)) (now (marks .exit)) (now (entries .entry)) (now (entries .exit)) r × (now (taken .exit) ≡ listOf (now (edges .entry)) k (now (figures .entry)) (now (marks .entry)) .taken) ⌝ }
 {
     let mut kept = 0;
     let mut recomputed = 0;

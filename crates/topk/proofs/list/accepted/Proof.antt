@@ -38,7 +38,7 @@ returns c =
     let s = at-run .before .before .before .before .before .before .before .before .before .before .before .before .before .before in
     let d = at-run .run in
     let n : length (d .last .1 .1 .1 .0) ≡ length (now (s .args .figures)) = omega arith in (
-      d .ensures,
+      d .ensures .0,
       c .before .before .zero2 .ensures ∙ ap (λ (m : ℕ). replicate m 0) n,
     )
 
