@@ -1,24 +1,27 @@
 -- What the loops pass over, the pairs that theirs has not changed, and the edges after the call byte by byte, in the shape of the loops' needs.
 -- Assumes nothing.
-use mathlib.Core.Bool.{_&&_, Bool, cond, false, true}
+use mathlib.Core.Bool.{_&&_, Bool, cond, false, not, true, true≢false, _||_}
 use mathlib.Core.List.{List}
 use mathlib.Core.Path.{ap, ap₂, refl, sym, _∙_, _≡_}
 use Prim.Native.Nat.{_%_, _+_, _-_, _/_, _<_, suc, zero, zero-le, ℕ, _≤_}
 use native.Mathlib.Decide.{ℕ-discrete}
+use native.Mathlib.Nat.{le-antisymm}
+use native.Mathlib.Numerals.{add-one}
 use native.Mathlib.Omega.{arith}
-use borrow.Author.Tests.{eqb-true}
-use lib.Bits.{and-le-l, and-le-r, and-lt, bitAnd, bitOr, bitXor, or-add-and, xor-add-and, xor-lt}
-use lib.Dec.{eqb}
+use borrow.Author.Tests.{eq-eqb, le-leb, lt-leb, ne-eqb}
+use lib.Bits.{and-le-l, and-le-r, and-lt, bitAnd, bitOr, bitXor, or-add-and, xor-add-and, xor-lt, xor-self}
+use lib.Dec.{eqb, leb}
 use lib.ListN.{getD, length, length-replicate, replicate}
-use Rattle.arith.proofs.Sums.{getD-fillTo, length-fillTo}
+use Rattle.arith.proofs.Sums.{anyTo-here, anyTo-never, getD-fillTo, length-fillTo}
 use Rattle.arith.proofs.Words.{bit-and, pack-bit, pack-is}
 use Rattle.arith.specs.Digits.{bitOf}
+use Rattle.arith.specs.Sums.{anyTo}
 use Rattle.ego.proofs.Agreement.{Agree}
 use Rattle.ego.specs.Graph.{Graph}
 use Rattle.merge.proofs.MergeLaws.{merged-is}
 use Rattle.merge.proofs.StepLaws.{aligned-base, aligned-theirs, row-none, untaken}
 use Rattle.merge.specs.Reconcile.{merged, overRow, takes}
-use Rattle.merge.specs.Steps.{Aligned, mergedByte, mergedEdges, SameRow, stepped}
+use Rattle.merge.specs.Steps.{Aligned, mergedByte, mergedEdges, rowSame, sameBytes, stepped}
 use Rattle.packed.proofs.EdgeLaws.{edge-self, edge-two}
 use Rattle.packed.proofs.FirstLaws.{bit-xor}
 use Rattle.packed.proofs.PairLaws.{pair-less, pair-lt, room-mono}
@@ -58,28 +61,62 @@ nothing-or a b e = (omega (arith, or-add-and a b, and-le-r a b), omega (arith, o
 nothing-xor : (a b : ℕ) → bitXor a b ≡ 0 → a ≡ b
 nothing-xor a b e = omega (arith, xor-add-and a b, and-le-l a b, and-le-r a b)
 
--- the bytes from `first` on and below k are the same where nothing was collected
-abbrev pub Collected : List ℕ → List ℕ → ℕ → ℕ → ℕ → Type 0
-Collected xs ys first other k = other ≡ 0 → (i : ℕ) → first ≤ i → i < k → getD xs i 0 ≡ getD ys i 0
+or-none : (a b : ℕ) → eqb (bitOr a b) 0 ≡ (eqb a 0 && eqb b 0)
+or-none a b = elim (ℕ-discrete (bitOr a b) 0) [
+  | yes e ↦ let none = nothing-or a b e in rw (eq-eqb (bitOr a b) 0 e, eq-eqb a 0 (none .0), eq-eqb b 0 (none .1))
+  | no d ↦ elim (ℕ-discrete a 0) [
+    | yes x ↦ rw (ne-eqb (bitOr a b) 0 d, eq-eqb a 0 x) (sym (ne-eqb b 0 (λ y. d (omega (arith, or-add-and a b)))))
+    | no x ↦ rw (ne-eqb (bitOr a b) 0 d, ne-eqb a 0 x)
+  ]
+]
 
-pub collect-none : (xs ys : List ℕ) {first k : ℕ} → k ≡ first → Collected xs ys first 0 k
-collect-none xs ys e z i a b = absurd (omega arith)
+xor-none : (a b : ℕ) → eqb (bitXor a b) 0 ≡ eqb a b
+xor-none a b = elim (ℕ-discrete a b) [
+  | yes e ↦ eq-eqb (bitXor a b) 0 (ap (bitXor a) (sym e) ∙ xor-self a) ∙ sym (eq-eqb a b e)
+  | no d ↦ ne-eqb (bitXor a b) 0 (λ z. d (nothing-xor a b z)) ∙ sym (ne-eqb a b d)
+]
 
-pub collect-more : (xs ys : List ℕ) {first other k : ℕ} → Collected xs ys first other k → Collected xs ys first (bitOr other (bitXor (getD xs k 0) (getD ys k 0))) (k + 1)
-collect-more xs ys {first} {other} {k} h z i a b =
-    let none = nothing-or other (bitXor (getD xs k 0) (getD ys k 0)) z in
-    elim (ℕ-discrete i k) [
-      | yes e ↦ rw e (nothing-xor (getD xs k 0) (getD ys k 0) (none .1))
-      | no d ↦ h (none .0) i a (omega arith)
-    ]
+-- nothing is collected where the bytes from `first` on and below k are the same
+pub collect-none : (xs ys : List ℕ) {first k : ℕ} → k ≡ first → eqb 0 0 ≡ sameBytes xs ys first k
+unfolding sameBytes
+collect-none xs ys {first} {k} e = sym (ap not (anyTo-never _ k (λ i h. rw (lt-leb first i (omega arith)))))
 
-pub collected-row : (theirs base : List ℕ) (b : ℕ) {start end other k : ℕ} → start ≡ pairCount b → end ≡ (start + b + 7) / 8 → end ≤ k
-    → Collected theirs base (start / 8) other k → eqb other 0 ≡ true → SameRow (edge theirs) (edge base) b
-unfolding bitAt
-collected-row theirs base b {start} {end} {other} {k} e f l h t a m =
+pub collect-more : (xs ys : List ℕ) (other : ℕ) {first k : ℕ} → first ≤ k → eqb other 0 ≡ sameBytes xs ys first k
+    → eqb (bitOr other (bitXor (getD xs k 0) (getD ys k 0))) 0 ≡ sameBytes xs ys first (k + 1)
+unfolding sameBytes anyTo
+collect-more xs ys other {first} {k} h e =
+    let x = getD xs k 0 in
+    let y = getD ys k 0 in
+    let before = anyTo (λ i. leb first i && not (eqb (getD xs i 0) (getD ys i 0))) k in
+    or-none other (bitXor x y) ∙ ap₂ _&&_ e (xor-none x y) ∙ sym (rw (add-one, le-leb first k h) (both before (eqb x y)))
+  where
+    both : (a b : Bool) → not (a || not b) ≡ (not a && b)
+    both true b = refl
+    both false true = refl
+    both false false = refl
+
+pub row-is : (theirs base : List ℕ) (b : ℕ) {start k : ℕ} → start ≡ pairCount b → k ≤ (start + b + 7) / 8 → (start + b + 7) / 8 ≤ k
+    → sameBytes theirs base (start / 8) k ≡ rowSame theirs base b
+unfolding rowSame
+row-is theirs base b e h l = ap₂ (sameBytes theirs base) (ap (λ i. i / 8) e) (le-antisymm h l ∙ ap (λ i. (i + b + 7) / 8) e)
+
+-- theirs has changed no pair of b with a node below it
+abbrev pub SameRow : Graph → Graph → ℕ → Type 0
+SameRow theirs base b = (a : ℕ) → a < b → theirs a b ≡ base a b
+
+same-at : (xs ys : List ℕ) (first end i : ℕ) → sameBytes xs ys first end ≡ true → first ≤ i → i < end → getD xs i 0 ≡ getD ys i 0
+unfolding sameBytes
+same-at xs ys first end i e a b = elim (ℕ-discrete (getD xs i 0) (getD ys i 0)) [
+  | yes q ↦ q
+  | no d ↦ absurd (true≢false (sym e ∙ ap not (anyTo-here _ end i b (rw (le-leb first i a, ne-eqb (getD xs i 0) (getD ys i 0) d)))))
+]
+
+pub same-row : (theirs base : List ℕ) (b : ℕ) → rowSame theirs base b ≡ true → SameRow (edge theirs) (edge base) b
+unfolding bitAt rowSame
+same-row theirs base b t a m =
     let d : a ≡ b → ⊥ = λ q. omega arith in
     let i : ℕ = pairCount b + a in
-    let same : getD theirs (i / 8) 0 ≡ getD base (i / 8) 0 = h (eqb-true other 0 t) (i / 8) (omega arith) (omega arith) in
+    let same = same-at theirs base (pairCount b / 8) ((pairCount b + b + 7) / 8) (i / 8) t (omega arith) (omega arith) in
     edge-two theirs a b d ∙ ap (bitAt theirs) (pair-less a b m) ∙ ap (λ x. bitOf x (7 - i % 8)) same ∙ sym (ap (bitAt base) (pair-less a b m)) ∙ sym (edge-two base a b d)
 
 -- ---- the next pair of b that theirs has changed

@@ -1,13 +1,14 @@
 -- One pair of a reconcile as the loops decide it, from the state they stand at, and one byte of the edges that it leaves. Assumes nothing.
-use mathlib.Core.Bool.{Bool, Bool·beq, cond, _&&_}
+use mathlib.Core.Bool.{Bool, Bool·beq, cond, not, _&&_}
 use mathlib.Core.List.{List}
 use mathlib.Core.Path.{_≡_}
-use Prim.Native.Nat.{ℕ, _≤_, _<_}
+use Prim.Native.Nat.{ℕ, _+_, _/_, _≤_}
+use lib.Dec.{eqb, leb}
 use lib.ListN.{getD, replicate}
 use Rattle.arith.specs.Digits.{bitOf}
-use Rattle.arith.specs.Sums.{fillTo, packTo}
-use Rattle.packed.specs.Bits.{differ}
-use Rattle.packed.specs.Pairs.{maxNodes}
+use Rattle.arith.specs.Sums.{anyTo, fillTo, packTo}
+use Rattle.packed.specs.Bits.{bytesFor, differ}
+use Rattle.packed.specs.Pairs.{maxNodes, pairCount}
 use Rattle.ego.specs.Graph.{Graph}
 use Rattle.state.specs.Sizes.{edgeBytes, maxEdgeBytes}
 use Rattle.state.specs.Marks.{markBytes}
@@ -27,9 +28,13 @@ pub record Aligned (n edges marks theirs base : ℕ) : Type 0 where
   pub theirsFit : theirs ≡ edgeBytes n
   pub baseFit : base ≡ edgeBytes n
 
--- theirs has changed no pair of b with a node below it
-abbrev pub SameRow : Graph → Graph → ℕ → Type 0
-SameRow theirs base b = (a : ℕ) → a < b → theirs a b ≡ base a b
+-- the bytes from `first` on and below `end` are the same in both lists
+unfoldable pub sameBytes : List ℕ → List ℕ → ℕ → ℕ → Bool
+sameBytes xs ys first end = not (anyTo (λ k. leb first k && not (eqb (getD xs k 0) (getD ys k 0))) end)
+
+-- the bytes that hold the pairs of b with the nodes below it are the same in both edge buffers
+unfoldable pub rowSame : List ℕ → List ℕ → ℕ → Bool
+rowSame theirs base b = sameBytes theirs base (pairCount b / 8) (bytesFor (pairCount b + b))
 
 -- each bit as theirs where theirs differs from the original, elsewhere as mine
 unfoldable pub mergedByte : ℕ → ℕ → ℕ → ℕ

@@ -6,14 +6,13 @@ use state::crowded::any_over;
 use state::sizes::MAX_EDGE_BYTES;
 use state::sizes::edge_bytes;
 ghost use mathlib.Core.Path.{_≡_};
-ghost use mathlib.Core.Bool.{true};
 ghost use Prim.Native.Nat.{_+_, _≤_, max};
 ghost use Rattle.packed.specs.Bits.{differ, FirstFrom};
 ghost use Rattle.packed.specs.Pairs.{Room};
 ghost use Rattle.packed.specs.Edges.{edge};
 ghost use Rattle.state.specs.Refusal.{tooMany, everyone};
 ghost use Rattle.merge.specs.Reconcile.{takes, merged};
-ghost use Rattle.merge.specs.Steps.{mergedByte, mergedEdges, SameRow};
+ghost use Rattle.merge.specs.Steps.{mergedByte, mergedEdges, rowSame};
 
 // Whether the pair a, b takes theirs: it differs there from the original and from mine.
 pub(crate) fn takes(edges: &[u8], theirs: &[u8], base: &[u8], a: usize, b: usize) -> bool
@@ -35,7 +34,7 @@ pub(crate) fn takes(edges: &[u8], theirs: &[u8], base: &[u8], a: usize, b: usize
 // Whether the bytes that hold the pairs of b with the nodes below it are the same in theirs and in the original.
 pub(crate) fn row_same(theirs: &[u8], base: &[u8], b: usize) -> bool
     requires { ⌜ Room (b + 1) (now theirs) × Room (b + 1) (now base) ⌝ }
-    ensures { λ r. ⌜ (r ≡ true → SameRow (edge (now (theirs .entry))) (edge (now (base .entry))) b) ⌝ }
+    ensures { λ r. ⌜ r ≡ rowSame (now (theirs .entry)) (now (base .entry)) b ⌝ }
 {
     let start = row_start(b);
     let end = (start + b + 7) / 8;

@@ -1,15 +1,17 @@
--- `merge::merged::row_same` meets its contract. Where nothing is collected after the turn of k the bytes up to k are the same. Assumes nothing.
-use mathlib.Core.Path.{refl}
-use Prim.Native.Nat.{_-_, _/_}
+-- `merge::merged::row_same` meets its contract. Before the turn of k nothing is collected exactly where the bytes below k are the same. Assumes nothing.
+use mathlib.Core.Path.{refl, _∙_, _≡_}
+use Prim.Native.Nat.{_-_, _/_, _≤_}
 use native.Mathlib.Omega.{arith}
 use denote.Ref.{now}
-use Rattle.merge.proofs.ChangeLaws.{collect-more, collect-none, Collected, collected-row, row-byte}
+use lib.Dec.{eqb}
+use Rattle.merge.proofs.ChangeLaws.{collect-more, collect-none, row-byte, row-is}
+use Rattle.merge.specs.Steps.{sameBytes}
 use Rattle.packed.proofs.RowLaws.{row-few}
 use Rattle.merge.proofs.merged.row_same.Statement.{statement}
 use Rattle.merge.proofs.merged.row_same.Tie as tie
 
 abbrev Inv-loop : tie.InvT-loop
-Inv-loop theirs base b start end other₀ k₀ other k = Collected theirs base (start / 8) other k
+Inv-loop theirs base b start end other₀ k₀ other k = (start / 8 ≤ k) × (k ≤ end) × (eqb other 0 ≡ sameBytes theirs base (start / 8) k)
 
 abbrev μ-loop : tie.MeasureT-loop
 μ-loop theirs base b start end other₀ k₀ other k = end - k
@@ -30,7 +32,7 @@ add-end-2 c =
 loop-holds : tie.Need-loop-holds Inv-loop μ-loop
 loop-holds c =
     let s = c .before .before .before in
-    collect-none (now (s .args .theirs)) (now (s .args .base)) refl
+    (omega arith, omega arith, collect-none (now (s .args .theirs)) (now (s .args .base)) refl)
 
 shared-slice-read-other : tie.Need-shared-slice-read-other Inv-loop μ-loop
 shared-slice-read-other c =
@@ -54,12 +56,14 @@ loop-again : tie.Need-loop-again Inv-loop μ-loop
 loop-again c =
     let at-loop = c .before .before .before in
     let s = at-loop .before .before .before .before in
-    collect-more (now (s .args .theirs)) (now (s .args .base)) (at-loop .loop .inv)
+    let inv = at-loop .loop .inv in
+    (omega arith, omega arith, collect-more (now (s .args .theirs)) (now (s .args .base)) (at-loop .loop .other) (inv .0) (inv .2))
 
 returns : tie.Need-returns Inv-loop μ-loop
 returns c =
     let s = c .before .before .before .before .before in
-    collected-row (now (s .args .theirs)) (now (s .args .base)) (s .args .b) (c .before .before .row-start .ensures) refl (c .loop-test .left) (c .before .loop .inv)
+    let inv = c .before .loop .inv in
+    inv .2 ∙ row-is (now (s .args .theirs)) (now (s .args .base)) (s .args .b) (c .before .before .row-start .ensures) (inv .1) (c .loop-test .left)
 
 pub row-same-spec : {M : Type 1} → statement M
 row-same-spec =

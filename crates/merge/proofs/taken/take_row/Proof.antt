@@ -1,9 +1,9 @@
 -- `merge::taken::take_row` meets its contract. The pairs of b with the nodes below a are done; a is the next that theirs has changed. Assumes nothing.
-use mathlib.Core.Path.{refl, _∙_, _≡_}
+use mathlib.Core.Path.{refl, sym, _∙_, _≡_}
 use Prim.Native.Nat.{_-_, _≤_}
 use native.Mathlib.Omega.{arith}
 use lib.ListN.{length}
-use Rattle.merge.proofs.ChangeLaws.{row-from, row-next, row-rooms, row-stays}
+use Rattle.merge.proofs.ChangeLaws.{row-from, row-next, row-rooms, row-stays, same-row}
 use Rattle.merge.proofs.StepLaws.{aligned-kept, row-done, row-none, row-step}
 use Rattle.merge.specs.Reconcile.{overRow}
 use Rattle.merge.specs.Steps.{stepped}
@@ -24,7 +24,7 @@ row-same-requires c κs =
     row-rooms (s .pre .0) (s .pre .1)
 
 returns : tie.Need-returns Inv-loop μ-loop
-returns c = row-stays _ _ _ _ _ (c .before .row-same .ensures (c .if1 .taken))
+returns c = row-stays _ _ _ _ _ (same-row _ _ _ (sym (c .before .row-same .ensures) ∙ c .if1 .taken))
 
 next-changed-requires : tie.Need-next-changed-requires Inv-loop μ-loop
 next-changed-requires c κs =
