@@ -19,7 +19,7 @@ array-borrow-prefix-entries : tie.Need-array-borrow-prefix-entries
 array-borrow-prefix-entries c = search needs
 
 slice-aggregate-list : tie.Need-slice-aggregate-list
-slice-aggregate-list c = sym (length-take-le _ _ (omega (arith, c .before .before .before .before .entries .ensures)))
+slice-aggregate-list c = sym (length-take-le _ _ (omega arith))
 
 slice-aggregate-list-2 : tie.Need-slice-aggregate-list-2
 slice-aggregate-list-2 c = search needs
