@@ -111,7 +111,10 @@ module _ (call : State → Outcome) (n : ℕ) (lent : State) {numbers : List ℕ
   in-accepted z =
       (λ i. left (z i) (given i .after .edges) (bytesOf (given i .after .figures)) (given i .after .marks)) ∙ ended-accepted lent (call (numbered n lent)) (sym (ap (λ (o : Outcome). o .refusal) given) ∙ z)
 
-  pub in-bytes : {q : ℕ} {bytes : List ℕ} → Keeps call → q ≡ r → bytes ≡ cond (eqb r 0) (bytesOf figures) (lent .figures) → left q links bytes marks ≡ ended (call (numbered n lent)) lent
-  in-bytes k same b =
-      (λ i. left (same i) links (b i) marks)
-      ∙ elim (ℕ-discrete r 0) [ yes z ↦ rw (eq-eqb r 0 z) (in-accepted z) | no d ↦ rw (ne-eqb r 0 d) (in-refused k d) ]
+  pub in-bytes : {q : ℕ} {bytes : List ℕ} → Keeps call → q ≡ r → bytes ≡ cond (eqb r 0) (bytesOf figures) (lent .figures)
+      → (left q links bytes marks ≡ ended (call (numbered n lent)) lent) × (figures ≡ call (numbered n lent) .after .figures)
+  in-bytes k same b = (
+    (λ i. left (same i) links (b i) marks)
+        ∙ elim (ℕ-discrete r 0) [ yes z ↦ rw (eq-eqb r 0 z) (in-accepted z) | no d ↦ rw (ne-eqb r 0 d) (in-refused k d) ],
+    ap (λ (o : Outcome). o .after .figures) given,
+  )

@@ -27,7 +27,7 @@ fn write_back(refusal: u64, numbers: &[u64], figures: &mut [u8]) -> u64
     0
 }
 
-// Clears the board, with room for its figures as numbers.
+// Clears the board, with room for its figures as numbers, which holds them as the call leaves them.
 pub(crate) fn clear_in(
     links: &mut [u8],
     figures: &mut [u8],
@@ -35,14 +35,14 @@ pub(crate) fn clear_in(
     numbers: &mut [u64],
 ) -> u64
     requires { ⌜ length (now figures) ≡ 8 * length (now numbers) ⌝ }
-    ensures { λ r. ⌜ left r (now (links .exit)) (now (figures .exit)) (now (marks .exit)) ≡ ended (clearCall (numbered (length (now (numbers .entry))) (state (now (links .entry)) (now (figures .entry)) (now (marks .entry))))) (state (now (links .entry)) (now (figures .entry)) (now (marks .entry))) ⌝ }
+    ensures { λ r. ⌜ (left r (now (links .exit)) (now (figures .exit)) (now (marks .exit)) ≡ ended (clearCall (numbered (length (now (numbers .entry))) (state (now (links .entry)) (now (figures .entry)) (now (marks .entry))))) (state (now (links .entry)) (now (figures .entry)) (now (marks .entry)))) × (now (numbers .exit) ≡ clearCall (numbered (length (now (numbers .entry))) (state (now (links .entry)) (now (figures .entry)) (now (marks .entry)))) .after .figures) ⌝ }
 {
     read(figures, numbers);
     let refusal = clear(links, numbers, marks);
     write_back(refusal, numbers, figures)
 }
 
-// Adds the link of posts a and b, with room for the figures as numbers.
+// Adds the link of posts a and b, with such room.
 pub(crate) fn add_in(
     links: &mut [u8],
     figures: &mut [u8],
@@ -52,14 +52,14 @@ pub(crate) fn add_in(
     b: usize,
 ) -> u64
     requires { ⌜ length (now figures) ≡ 8 * length (now numbers) ⌝ }
-    ensures { λ r. ⌜ left r (now (links .exit)) (now (figures .exit)) (now (marks .exit)) ≡ ended (addCall (numbered (length (now (numbers .entry))) (state (now (links .entry)) (now (figures .entry)) (now (marks .entry)))) a b) (state (now (links .entry)) (now (figures .entry)) (now (marks .entry))) ⌝ }
+    ensures { λ r. ⌜ (left r (now (links .exit)) (now (figures .exit)) (now (marks .exit)) ≡ ended (addCall (numbered (length (now (numbers .entry))) (state (now (links .entry)) (now (figures .entry)) (now (marks .entry)))) a b) (state (now (links .entry)) (now (figures .entry)) (now (marks .entry)))) × (now (numbers .exit) ≡ addCall (numbered (length (now (numbers .entry))) (state (now (links .entry)) (now (figures .entry)) (now (marks .entry)))) a b .after .figures) ⌝ }
 {
     read(figures, numbers);
     let refusal = add(links, numbers, marks, a, b);
     write_back(refusal, numbers, figures)
 }
 
-// Removes the link of posts a and b, with room for the figures as numbers.
+// Removes the link of posts a and b, with such room.
 pub(crate) fn remove_in(
     links: &mut [u8],
     figures: &mut [u8],
@@ -69,7 +69,7 @@ pub(crate) fn remove_in(
     b: usize,
 ) -> u64
     requires { ⌜ length (now figures) ≡ 8 * length (now numbers) ⌝ }
-    ensures { λ r. ⌜ left r (now (links .exit)) (now (figures .exit)) (now (marks .exit)) ≡ ended (removeCall (numbered (length (now (numbers .entry))) (state (now (links .entry)) (now (figures .entry)) (now (marks .entry)))) a b) (state (now (links .entry)) (now (figures .entry)) (now (marks .entry))) ⌝ }
+    ensures { λ r. ⌜ (left r (now (links .exit)) (now (figures .exit)) (now (marks .exit)) ≡ ended (removeCall (numbered (length (now (numbers .entry))) (state (now (links .entry)) (now (figures .entry)) (now (marks .entry)))) a b) (state (now (links .entry)) (now (figures .entry)) (now (marks .entry)))) × (now (numbers .exit) ≡ removeCall (numbered (length (now (numbers .entry))) (state (now (links .entry)) (now (figures .entry)) (now (marks .entry)))) a b .after .figures) ⌝ }
 {
     read(figures, numbers);
     let refusal = remove(links, numbers, marks, a, b);

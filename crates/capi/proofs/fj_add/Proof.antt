@@ -61,7 +61,7 @@ returns-2 c =
     let at-if1 = at-room .before in
     let at-length-refusal = at-if1 .before in
     let s = at-length-refusal .before .before .before .before in
-    called-passed (λ t. addCall t (s .args .a) (s .args .b)) _ (state (now (s .args .links)) (now (s .args .figures)) (now (s .args .marks))) (at-length-refusal .length-refusal .ensures) (at-if1 .if1 .left) (length-take-le _ _ (room-part ((lent-by _ _ _ _ (at-length-refusal .length-refusal .ensures) (at-if1 .if1 .left)) .few) (at-room .room .ensures))) (at-add-in .add-in .ensures)
+    called-passed (λ t. addCall t (s .args .a) (s .args .b)) _ (state (now (s .args .links)) (now (s .args .figures)) (now (s .args .marks))) (at-length-refusal .length-refusal .ensures) (at-if1 .if1 .left) (length-take-le _ _ (room-part ((lent-by _ _ _ _ (at-length-refusal .length-refusal .ensures) (at-if1 .if1 .left)) .few) (at-room .room .ensures))) (at-add-in .add-in .ensures .0)
 
 pub fj-add-spec : {M : Type 1} → statement M
 fj-add-spec =

@@ -61,7 +61,7 @@ returns-2 c =
     let at-if1 = at-room .before in
     let at-length-refusal = at-if1 .before in
     let s = at-length-refusal .before .before .before .before in
-    called-passed clearCall _ (state (now (s .args .links)) (now (s .args .figures)) (now (s .args .marks))) (at-length-refusal .length-refusal .ensures) (at-if1 .if1 .left) (length-take-le _ _ (room-part ((lent-by _ _ _ _ (at-length-refusal .length-refusal .ensures) (at-if1 .if1 .left)) .few) (at-room .room .ensures))) (at-clear-in .clear-in .ensures)
+    called-passed clearCall _ (state (now (s .args .links)) (now (s .args .figures)) (now (s .args .marks))) (at-length-refusal .length-refusal .ensures) (at-if1 .if1 .left) (length-take-le _ _ (room-part ((lent-by _ _ _ _ (at-length-refusal .length-refusal .ensures) (at-if1 .if1 .left)) .few) (at-room .room .ensures))) (at-clear-in .clear-in .ensures .0)
 
 pub fj-clear-spec : {M : Type 1} → statement M
 fj-clear-spec =
