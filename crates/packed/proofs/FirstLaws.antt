@@ -1,7 +1,9 @@
--- The first bit that is set: in a word by the count of its leading zeros, and in packed bytes by a walk over words. Assumes nothing.
+-- The first number that passes a test, and the first bit that is set: in a word by the count of its leading zeros, in packed bytes by a walk over words.
+-- Assumes nothing.
 use mathlib.Core.Bool.{Bool, false, true, true≢false}
 use mathlib.Core.List.{List}
-use mathlib.Core.Path.{ap, ap₂, refl, sym, _∙_, _≡_}
+use mathlib.Core.Logic.{inl, inr}
+use mathlib.Core.Path.{ap, ap₂, refl, subst, sym, _∙_, _≡_}
 use Prim.Native.Nat.{_%_, _*_, _+_, _-_, _/_, _<_, _^_, suc, zero, zero-le, ℕ, _≤_}
 use native.Mathlib.Decide.{decLt}
 use native.Mathlib.Nat.{div-eq-of-lt, le-refl, lt-of-lt-of-le, mod-eq-of-lt, mod-lt, mul-add-mod-self-right, one-mul, pow-suc, zero-lt-suc}
@@ -11,11 +13,40 @@ use lib.Bits as Lib
 use lib.Count.{leading-le, leading-of-zero, leading-top, leadingZeros}
 use lib.Dec.{eqb}
 use lib.Pow.{high, ones-lt, ones-split, pow-mono, pow-pos}
+use Rattle.arith.proofs.Least.{leastFrom-hit, leastFrom-miss}
+use Rattle.arith.proofs.Tests.{test}
 use Rattle.arith.proofs.Words.{bit-mod}
 use Rattle.arith.specs.Digits.{bitOf, digit}
+use Rattle.arith.specs.Lists.{leastFrom}
 use Rattle.packed.proofs.RunLaws.{run-bit}
 use Rattle.packed.specs.Bits.{bitAt, differ, FirstFrom}
 use Rattle.packed.specs.Runs.{runOf}
+
+-- ---- `FirstFrom` fixes one number
+
+module _ (passes : ℕ → Bool) where
+  least-from : (m from r : ℕ) → FirstFrom passes from (from + m) r → r ≡ leastFrom passes from m
+  least-from zero from r f = omega (arith, f .start, f .stop)
+  least-from (suc m) from r f = elim (test (passes from)) [
+    | inl t ↦ elim (decLt from r) [
+      | yes l ↦ absurd (true≢false (sym t ∙ f .none from (le-refl from) l))
+      | no l ↦ omega (arith, f .start, leastFrom-hit passes from m t)
+    ]
+    | inr t ↦ elim (decLt from r) [
+      | yes l ↦ least-from m (suc from) r (record { start = l; stop = omega (arith, f .stop); none = λ i a b. f .none i (omega arith) b; some = λ b. f .some (omega arith) })
+          ∙ sym (leastFrom-miss passes from m t)
+      | no l ↦ let e : r ≡ from = omega (arith, f .start) in absurd (true≢false (sym (f .some (omega arith)) ∙ ap passes e ∙ t))
+    ]
+  ]
+
+  -- the least from `from` on that passes, and `to` where none does
+  pub first-least : {from to r : ℕ} → FirstFrom passes from to r → r ≡ leastFrom passes from (to - from)
+  first-least {from} {to} {r} f =
+      let e : from + (to - from) ≡ to = omega (arith, f .start, f .stop) in
+      least-from (to - from) from r (subst (λ t. FirstFrom passes from t r) (sym e) f)
+
+  pub first-unique : {from to r r′ : ℕ} → FirstFrom passes from to r → FirstFrom passes from to r′ → r ≡ r′
+  first-unique f g = first-least f ∙ sym (first-least g)
 
 -- ---- in a word
 

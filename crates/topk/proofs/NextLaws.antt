@@ -4,7 +4,7 @@ use mathlib.Core.List.{List}
 use mathlib.Core.Logic.{inl, inr}
 use mathlib.Core.Path.{ap, refl, subst, sym, _∙_, _≡_}
 use Prim.Native.Nat.{_+_, _<_, suc, zero, ℕ, _≤_}
-use native.Mathlib.Decide.{ℕ-discrete}
+use native.Mathlib.Decide.{decLt, ℕ-discrete}
 use native.Mathlib.Nat.{le-refl}
 use native.Mathlib.Numerals.{add-one}
 use native.Mathlib.Omega.{arith}
@@ -79,6 +79,21 @@ next-of-node h = rw (lt-ltb _ _ h)
 pub next-of-none : {n p : ℕ} → n ≤ p → nextOf n p ≡ nothing
 unfolding nextOf
 next-of-none h = rw (le-ltb _ _ h)
+
+-- the number that the code answers for what is next
+abbrev numberOf : ℕ → Next → ℕ
+numberOf n nothing = n
+numberOf n (at p) = p
+
+number-of : {n p : ℕ} → p ≤ n → numberOf n (nextOf n p) ≡ p
+number-of {n} {p} h = elim (decLt p n) [
+  | yes l ↦ rw (next-of-node l)
+  | no l ↦ rw (next-of-none {n = n} {p = p} (omega arith)) (omega arith)
+]
+
+-- so what is next fixes the number
+pub next-unique : {n p q : ℕ} → p ≤ n → q ≤ n → nextOf n p ≡ nextOf n q → p ≡ q
+next-unique {n} h l e = sym (number-of h) ∙ ap (numberOf n) e ∙ number-of l
 
 module _ (F S : List ℕ) (n best i : ℕ) where
   pub better-skips : Taken S i → nextOf n best ≡ better (looking F S) (nextOf n best) i
