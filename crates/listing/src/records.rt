@@ -5,7 +5,7 @@ use topk::list::Answer;
 use topk::list::list;
 ghost use mathlib.Core.Path.{_≡_};
 ghost use Prim.Native.Nat.{_*_, _<_, min};
-ghost use lib.ListN.{length};
+ghost use lib.ListN.{replicate};
 ghost use Rattle.state.specs.Outcome.{state};
 ghost use Rattle.listing.specs.Records.{recording, entriesCall, rows, entryIn, Gathered};
 
@@ -19,9 +19,9 @@ pub struct Table {
     pub numbers: [u64; 2 * ROWS],
 }
 
-// Numbers for a table.
+// Numbers for a table, all 0.
 fn blank() -> [u64; 2 * ROWS]
-    ensures { λ r. ⌜ length r ≡ 2 * rows ⌝ }
+    ensures { λ r. ⌜ r ≡ replicate (2 * rows) 0 ⌝ }
 {
     [0; 2 * ROWS]
 }

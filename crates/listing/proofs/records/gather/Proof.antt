@@ -31,7 +31,7 @@ slice-aggregate-list c =
     let at-blank = at-rows-of .before in
     let m = at-rows-of .rows-of .result in
     let N = at-blank .blank .result in
-    sym (length-take-le (2 * m) N (omega (arith, at-rows-of .rows-of .ensures, at-blank .blank .ensures)))
+    sym (length-take-le (2 * m) N (omega (arith, at-rows-of .rows-of .ensures)))
 
 list-requires : tie.Need-list-requires
 list-requires c κs = search needs
@@ -55,7 +55,7 @@ returns c =
     let N = at-blank .blank in
     let l = at-list .list in
     let e : length (take (2 * m .result) (N .result)) ≡ 2 * min (s .args .k) rows =
-    length-take-le (2 * m .result) (N .result) (omega (arith, m .ensures, N .ensures)) ∙ ap (λ (i : ℕ). 2 * i) (m .ensures) in
+    length-take-le (2 * m .result) (N .result) (omega (arith, m .ensures)) ∙ ap (λ (i : ℕ). 2 * i) (m .ensures) in
     gather-refused (state (now (s .args .edges)) (now (s .args .figures)) (now (s .args .marks))) (now (s .args .scratch)) (s .args .k) (take (2 * m .result) (N .result)) e (l .result)
     (state (now (s .args .edges)) (l .last .1 .0) (l .last .1 .1 .0)) (l .last .1 .1 .1 .0) (l .last .1 .1 .1 .1 .0) (l .ensures) (c .if1 .taken) (l .last .1 .1 .1 .0 ++ drop (2 * m .result) (N .result))
 
@@ -78,7 +78,7 @@ returns-2 c =
     let N = at-blank .blank in
     let l = at-list .list in
     let e : length (take (2 * m .result) (N .result)) ≡ 2 * min (s .args .k) rows =
-    length-take-le (2 * m .result) (N .result) (omega (arith, m .ensures, N .ensures)) ∙ ap (λ (i : ℕ). 2 * i) (m .ensures) in
+    length-take-le (2 * m .result) (N .result) (omega (arith, m .ensures)) ∙ ap (λ (i : ℕ). 2 * i) (m .ensures) in
     gather-taken (state (now (s .args .edges)) (now (s .args .figures)) (now (s .args .marks))) (now (s .args .scratch)) (s .args .k) (take (2 * m .result) (N .result)) e (l .result)
     (state (now (s .args .edges)) (l .last .1 .0) (l .last .1 .1 .0)) (l .last .1 .1 .1 .0) (l .last .1 .1 .1 .1 .0) (l .ensures) (c .if1 .left) (drop (2 * m .result) (N .result))
 
