@@ -1,31 +1,16 @@
 -- Whether a call turns back depends on the edges among the nodes below n alone. Assumes nothing.
-use mathlib.Core.Bool.{Bool}
 use mathlib.Core.List.{List, _∷_}
 use mathlib.Core.Logic.{_≢_}
-use mathlib.Core.Path.{ap, refl, _≡_}
+use mathlib.Core.Path.{refl, _≡_}
 use Prim.Native.Nat.{_<_, ℕ}
 use borrow.Author.Tests.{eqb-false, leb-false}
-use Rattle.arith.proofs.Sums.{anyTo-ext}
-use Rattle.ego.proofs.Agreement.{Agree, degree-agree}
+use Rattle.ego.proofs.Agreement.{Agree}
 use Rattle.ego.specs.Graph.{Graph}
 use Rattle.calls.proofs.AcceptLaws.{same-rest}
 use Rattle.edits.proofs.EditLaws.{touched-agree}
 use Rattle.edits.specs.Edit.{addConditions, removeConditions}
-use Rattle.state.specs.Refusal.{Condition, crowdedAfter, crowdedBefore, edgeAbsent, edgePresent, ends, nodeNumber, refusal, sameNodes, tooMany, touched}
-
-pub tooMany-agree : (n : ℕ) (g g′ : Graph) (which which′ : ℕ → Bool) → Agree n g g′ → ((p : ℕ) → p < n → which p ≡ which′ p)
-    → tooMany g n which ≡ tooMany g′ n which′
-unfolding tooMany
-tooMany-agree n g g′ which which′ same w = anyTo-ext _ _ n (λ p h. rw (w p h, degree-agree n p h same))
-
-module _ (n : ℕ) (g g′ : Graph) (which which′ : ℕ → Bool) (same : Agree n g g′) (nodes : (p : ℕ) → p < n → which p ≡ which′ p) where
-  pub before-agree : crowdedBefore g n which ≡ crowdedBefore g′ n which′
-  unfolding crowdedBefore
-  before-agree = ap (λ t. (11, t)) (tooMany-agree n g g′ which which′ same nodes)
-
-  pub after-agree : crowdedAfter g n which ≡ crowdedAfter g′ n which′
-  unfolding crowdedAfter
-  after-agree = ap (λ t. (12, t)) (tooMany-agree n g g′ which which′ same nodes)
+pub use Rattle.state.proofs.CrowdedLaws.{after-agree, before-agree}
+use Rattle.state.specs.Refusal.{Condition, edgeAbsent, edgePresent, ends, nodeNumber, refusal, sameNodes, touched}
 
 module _ (n : ℕ) (g g′ : Graph) (a b : ℕ) (same : Agree n g g′) where
   -- the conditions on the two nodes, then others that may count on them

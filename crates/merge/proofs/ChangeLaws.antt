@@ -29,7 +29,7 @@ use Rattle.packed.proofs.RowLaws.{row-within}
 use Rattle.packed.specs.Bits.{bitAt, differ, FirstFrom}
 use Rattle.packed.specs.Edges.{edge}
 use Rattle.packed.specs.Pairs.{maxNodes, pairCount, pairIndex, Room}
-use Rattle.edits.proofs.SameRefusal.{tooMany-agree}
+use Rattle.state.proofs.CrowdedLaws.{tooMany-agree}
 use Rattle.calls.proofs.SnapshotLaws.{bytes-small}
 use Rattle.state.specs.Refusal.{everyone, tooMany}
 use Rattle.state.specs.Sizes.{edgeBytes, maxEdgeBytes}

@@ -20,8 +20,8 @@ use Rattle.packed.specs.Bits.{differ}
 use Rattle.packed.specs.Edges.{edge}
 use Rattle.calls.proofs.AcceptLaws.{lengths-fit, outcome-accepted, outcome-refusal}
 use Rattle.edits.proofs.NamedLaws.{Named}
+use Rattle.state.proofs.CrowdedLaws.{after-agree, before-agree}
 use Rattle.state.proofs.RefusalLaws.{Fitted}
-use Rattle.edits.proofs.SameRefusal.{after-agree, before-agree}
 use Rattle.edits.proofs.Sound.{added-shows, added-sound, removed-shows, removed-sound, Shows, shows-agree, shows-symmetric, Sound, sound-agree}
 use Rattle.edits.specs.Edit.{added, removed}
 use Rattle.state.specs.Refusal.{everyone, refusal}

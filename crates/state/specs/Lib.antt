@@ -5,3 +5,4 @@ pub mod State
 pub mod Refusal
 pub mod Outcome
 pub mod Honest
+pub mod Spare

@@ -6,8 +6,12 @@ use lib.Dec.{ltb}
 use lib.ListN.{replicate}
 use Rattle.packed.specs.Bits.{bitAt, withBit, bytesOf, bytesFor}
 
+-- how many bits the marks of n nodes have in use
+abbrev pub markBits : ℕ → ℕ
+markBits n = n
+
 abbrev pub markBytes : ℕ → ℕ
-markBytes n = bytesFor n
+markBytes n = bytesFor (markBits n)
 
 -- node p is stale
 unfoldable pub stale : List ℕ → ℕ → Bool
