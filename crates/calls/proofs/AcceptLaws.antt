@@ -1,6 +1,6 @@
 -- What a call that is accepted knows of its lengths, and what an accepted and a refused call leave. Assumes nothing.
 use mathlib.Core.Bool.{false}
-use mathlib.Core.List.{_++_, List, _∷_}
+use mathlib.Core.List.{_++_, [], List, _∷_}
 use mathlib.Core.Logic.{inl, inr}
 use mathlib.Core.Path.{ap, refl, sym, _∙_, _≡_}
 use Prim.Native.Nat.{ℕ}
@@ -28,6 +28,10 @@ pub same-rest : (c : Condition) (cs ds : List Condition) → (c .1 ≡ false →
 unfolding refusal
 same-rest c cs ds h = elim (test (c .1)) [ inl t ↦ rw t | inr t ↦ rw t (h t) ]
 
+pub append-same : (ls cs ds : List Condition) → refusal cs ≡ refusal ds → refusal (ls ++ cs) ≡ refusal (ls ++ ds)
+append-same [] cs ds e = e
+append-same (c ∷ ls) cs ds e = same-rest c (ls ++ cs) (ls ++ ds) (λ t. append-same ls cs ds e)
+
 -- ---- the lengths of the state
 
 pub lengths-fit : (s : State) (cs : List Condition) → refusal (lengths s ++ cs) ≡ 0 → Fitted (size s) (length (s .edges)) (length (s .marks))
@@ -40,6 +44,10 @@ lengths-fit s cs e = elim (ℕ-discrete (refusal (lengths s)) 0) [
 pub lengths-pass : (s : State) (cs : List Condition) → Fitted (size s) (length (s .edges)) (length (s .marks)) → refusal (lengths s ++ cs) ≡ refusal cs
 unfolding lengths
 lengths-pass s cs f = fitted-append (size s) (length (s .edges)) (length (s .marks)) cs f
+
+-- what an accepted call is asked besides
+pub lengths-rest : (s : State) (cs : List Condition) → refusal (lengths s ++ cs) ≡ 0 → refusal cs ≡ 0
+lengths-rest s cs z = sym (lengths-pass s cs (lengths-fit s cs z)) ∙ z
 
 -- ---- what a call leaves
 

@@ -3,3 +3,4 @@ pub mod OutcomeLaws
 pub mod RoundTrip
 pub mod ScoreLaws
 pub mod SnapshotLaws
+pub mod Spare

@@ -103,6 +103,11 @@ spare-stale-to x f n (suc p) h =
 pub alike-refl : (s : State) → Alike s s
 alike-refl s = record { edges = same-refl (s .edges); figures = refl; marks = same-refl (s .marks) }
 
+-- the parts, where n is the number of nodes
+pub alike-by : (s t : State) (n : ℕ) → size s ≡ n
+    → SameBits (pairCount n) (s .edges) (t .edges) → s .figures ≡ t .figures → SameBits (markBits n) (s .marks) (t .marks) → Alike s t
+alike-by s t n e edges figures marks = record { edges = rw e edges; figures = figures; marks = rw e marks }
+
 pub spare-refl : (s : State) → SpareKept s s
 spare-refl s = record { nodes = refl; edges = same-refl (s .edges); marks = same-refl (s .marks) }
 
