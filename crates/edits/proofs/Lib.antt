@@ -6,3 +6,4 @@ pub mod NamedLaws
 pub mod PairRefusals
 pub mod SameRefusal
 pub mod Sound
+pub mod Spare
