@@ -14,3 +14,4 @@ pub mod HoldsLaws
 pub mod RunLaws
 pub mod ListLaws
 pub mod Examples
+pub mod Spare

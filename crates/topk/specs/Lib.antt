@@ -5,3 +5,4 @@ pub mod Layout
 pub mod Turns
 pub mod List
 pub mod Right
+pub mod Spare
