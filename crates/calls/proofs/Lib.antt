@@ -4,3 +4,4 @@ pub mod RoundTrip
 pub mod ScoreLaws
 pub mod SnapshotLaws
 pub mod Spare
+pub mod SpareZero

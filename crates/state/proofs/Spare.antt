@@ -1,22 +1,25 @@
 -- Bytes that agree in the bits in use, and bytes that agree in the spare bits: what is read and written in edges and marks. Assumes nothing.
-use mathlib.Core.Bool.{Bool, true}
+use mathlib.Core.Bool.{Bool, false, true}
 use mathlib.Core.List.{List}
 use mathlib.Core.Logic.{inl, inr, _≢_}
 use mathlib.Core.Path.{ap, refl, subst, sym, _∙_, _≡_}
-use Prim.Native.Nat.{_/_, _<_, suc, zero, ℕ, _≤_}
+use Prim.Native.Nat.{_%_, _*_, _-_, _/_, _<_, suc, zero, ℕ, _≤_}
 use native.Mathlib.Decide.{decLt, ℕ-discrete}
 use native.Mathlib.Omega.{arith}
-use lib.ListN.{length}
+use borrow.Author.Tests.{le-ltb}
+use lib.Dec.{ltb}
+use lib.ListN.{length, List·getD-eq-default}
 use lib.Seq.{set-out}
 use Rattle.arith.proofs.Tests.{test}
+use Rattle.arith.specs.Digits.{bitOf}
 use Rattle.ego.proofs.Agreement.{Agree}
-use Rattle.packed.proofs.BitLaws.{bit-with-other, bit-with-same, length-with-bit}
+use Rattle.packed.proofs.BitLaws.{bit-bytesOf, bit-with-other, bit-with-same, bit-zeros, length-bytesOf, length-with-bit}
 use Rattle.packed.proofs.EdgeLaws.{edge-self, edge-two, length-with-edge, spare-with-edge, with-self, with-two}
 use Rattle.packed.proofs.PairLaws.{pair-lt}
-use Rattle.packed.specs.Bits.{withBit}
+use Rattle.packed.specs.Bits.{bitAt, withBit}
 use Rattle.packed.specs.Edges.{edge, withEdge}
 use Rattle.packed.specs.Pairs.{pairCount, pairIndex}
-use Rattle.state.specs.Marks.{markBits, stale, staleTo, withMark}
+use Rattle.state.specs.Marks.{allExact, allStale, markBits, markBytes, stale, staleTo, withMark}
 use Rattle.state.specs.Outcome.{lengths}
 use Rattle.state.specs.Spare.{Alike, SameAt, SameBits, SameSpare, SpareKept}
 use Rattle.state.specs.State.{graph, size, State}
@@ -27,6 +30,11 @@ use Rattle.state.specs.State.{graph, size, State}
 with-bit-past : (x : List ℕ) (i : ℕ) (on : Bool) → length x ≤ i / 8 → withBit x i on ≡ x
 unfolding withBit
 with-bit-past x i on h = set-out x (i / 8) _ h
+
+-- and is 0
+pub bit-past : (x : List ℕ) (i : ℕ) → length x ≤ i / 8 → bitAt x i ≡ false
+unfolding bitAt
+bit-past x i h = ap (λ b. bitOf b (7 - i % 8)) (List·getD-eq-default x 0 h) ∙ bit-zeros 0 i
 
 module _ {places : ℕ → Type 0} where
   pub same-refl : (x : List ℕ) → SameAt places x x
@@ -97,6 +105,18 @@ spare-stale-to x f n zero h = same-refl x
 spare-stale-to x f n (suc p) h =
     let r = spare-stale-to x f n p (omega arith) in
     elim (test (f p)) [ inl t ↦ rw t (same-trans r (spare-with-mark (staleTo f x p) n p true h)) | inr t ↦ rw t r ]
+
+-- the marks that a clear and a load leave
+pub exact-zero : (n i : ℕ) → bitAt (allExact n) i ≡ false
+unfolding allExact
+exact-zero n i = bit-zeros (markBytes n) i
+
+pub stale-zero : (n i : ℕ) → markBits n ≤ i → bitAt (allStale n) i ≡ false
+unfolding allStale
+stale-zero n i h = elim (decLt i (8 * markBytes n)) [
+  | yes l ↦ bit-bytesOf (λ j. ltb j n) (markBytes n) i l ∙ le-ltb i n h
+  | no l ↦ bit-past _ i (omega (arith, length-bytesOf (λ j. ltb j n) (markBytes n)))
+]
 
 -- ---- states
 

@@ -1,4 +1,5 @@
 -- Spare bits: those of the edges and the marks that are not in use. Assumes nothing.
+use mathlib.Core.Bool.{false}
 use mathlib.Core.List.{List}
 use mathlib.Core.Path.{_≡_}
 use Prim.Native.Nat.{ℕ, _≤_, _<_}
@@ -37,3 +38,8 @@ pub record SpareKept (s t : State) : Type 0 where
   pub nodes : size s ≡ size t
   pub edges : SameSpare (pairCount (size s)) (s .edges) (t .edges)
   pub marks : SameSpare (markBits (size s)) (s .marks) (t .marks)
+
+-- The spare bits are 0.
+pub record SpareZero (s : State) : Type 0 where
+  pub edges : (i : ℕ) → pairCount (size s) ≤ i → bitAt (s .edges) i ≡ false
+  pub marks : (i : ℕ) → markBits (size s) ≤ i → bitAt (s .marks) i ≡ false
