@@ -11,7 +11,6 @@ use lib.ListN.{length}
 use Rattle.arith.proofs.Sums.{sumTo-ext, tabulate-ext}
 use Rattle.arith.specs.Sums.{bit, tabulate}
 use Rattle.ego.proofs.Agreement.{score-agree}
-use Rattle.ego.specs.Score.{score}
 use Rattle.packed.specs.Bits.{bitAt}
 use Rattle.packed.specs.Edges.{edge}
 use Rattle.packed.specs.Pairs.{pairCount}
@@ -37,8 +36,8 @@ outcome-spare cs s t h = elim (ℕ-discrete (refusal cs) 0) [
 ]
 
 module _ {s t : State} (h : Alike s t) (cs ds : List Condition) where
-  pub lengths-alike : refusal cs ≡ refusal ds → refusal (lengths s ++ cs) ≡ refusal (lengths t ++ ds)
-  lengths-alike e = ap (λ ls. refusal (ls ++ cs)) (alike-lengths h) ∙ append-same (lengths t) cs ds e
+  pub rest-alike : refusal cs ≡ refusal ds → refusal (lengths s ++ cs) ≡ refusal (lengths t ++ ds)
+  rest-alike e = ap (λ ls. refusal (ls ++ cs)) (alike-lengths h) ∙ append-same (lengths t) cs ds e
 
   -- s′ and t′ are what an accepted call leaves
   pub outcome-alike : (s′ t′ : State) → refusal cs ≡ refusal ds → (refusal cs ≡ 0 → Alike s′ t′) → AlikeOutcome (outcome cs s s′) (outcome ds t t′)
@@ -63,7 +62,7 @@ module _ {s t : State} (h : Alike s t) where
   pub load-alike : (snapshot : List ℕ) → AlikeOutcome (loadCall s snapshot) (loadCall t snapshot)
   unfolding loadCall
   load-alike snapshot = outcome-alike h _ _ _ _
-      (lengths-alike h (loadConditions (size s) snapshot) (loadConditions (size t) snapshot) (ap (λ n. refusal (loadConditions n snapshot)) (alike-nodes h)))
+      (rest-alike h (loadConditions (size s) snapshot) (loadConditions (size t) snapshot) (ap (λ n. refusal (loadConditions n snapshot)) (alike-nodes h)))
       (λ z. same-build (λ n. loaded n (snapshotEdges snapshot)))
 
 module _ (n : ℕ) {x y : List ℕ} (e : SameBits (pairCount n) x y) where
@@ -85,8 +84,9 @@ module _ {s t : State} (h : Alike s t) (buffer : List ℕ) where
       tabulate-ext _ _ (snapshotBytes (size s)) (λ i l. same-byte (size s) (h .edges) i)
       ∙ ap (λ n. tabulate (snapshotByte (t .edges) n) (snapshotBytes n)) (alike-nodes h)
 
-  write-same : refusal (lengths s ++ writeConditions (size s) (graph s) (length buffer)) ≡ refusal (lengths t ++ writeConditions (size t) (graph t) (length buffer))
-  write-same = lengths-alike h _ _ (rw (before-agree (size s) (graph s) (graph t) everyone everyone (alike-links h) (λ p l. refl), alike-nodes h))
+  write-same : refusal (lengths s ++ writeConditions (size s) (graph s) (length buffer))
+      ≡ refusal (lengths t ++ writeConditions (size t) (graph t) (length buffer))
+  write-same = rest-alike h _ _ (rw (before-agree (size s) (graph s) (graph t) everyone everyone (alike-links h) (λ p l. refl), alike-nodes h))
 
   pub write-alike : writeCall s buffer ≡ writeCall t buffer
   unfolding writeCall

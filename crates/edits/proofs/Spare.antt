@@ -11,7 +11,7 @@ use Rattle.ego.specs.Bound.{bound}
 use Rattle.ego.specs.Graph.{Graph}
 use Rattle.packed.specs.Edges.{edge, withEdge}
 use Rattle.calls.proofs.AcceptLaws.{lengths-rest}
-use Rattle.calls.proofs.Spare.{lengths-alike, outcome-alike, outcome-spare}
+use Rattle.calls.proofs.Spare.{outcome-alike, outcome-spare, rest-alike}
 use Rattle.edits.proofs.EditLaws.{edited-size, touched-agree}
 use Rattle.edits.proofs.NamedLaws.{add-accepted, remove-accepted}
 use Rattle.edits.proofs.SameRefusal.{add-agree, remove-agree}
@@ -44,16 +44,18 @@ module _ (s : State) (a b : ℕ) where
 
   pub add-spare : SpareKept s (addCall s a b .after)
   unfolding addCall
-  add-spare = outcome-spare _ s (added s a b) (λ z. let d = add-accepted (size s) (graph s) a b _ (lengths-rest s _ z) in added-spare (d .first) (d .second))
+  add-spare = outcome-spare _ s (added s a b) (λ z.
+      let d = add-accepted (size s) (graph s) a b _ (lengths-rest s _ z) in added-spare (d .first) (d .second))
 
   pub remove-spare : SpareKept s (removeCall s a b .after)
   unfolding removeCall
-  remove-spare = outcome-spare _ s (removed s a b) (λ z. let d = remove-accepted (size s) (graph s) a b (lengths-rest s _ z) in removed-spare (d .first) (d .second))
+  remove-spare = outcome-spare _ s (removed s a b) (λ z.
+      let d = remove-accepted (size s) (graph s) a b (lengths-rest s _ z) in removed-spare (d .first) (d .second))
 
 -- ---- they do not depend on them
 
-renewed-agree : {g g′ : Graph} (figures : List ℕ) (which which′ : ℕ → Bool) → Agree (length figures) g g′ → ((p : ℕ) → p < length figures → which p ≡ which′ p)
-    → renewed g figures which ≡ renewed g′ figures which′
+renewed-agree : {g g′ : Graph} (figures : List ℕ) (which which′ : ℕ → Bool) → Agree (length figures) g g′
+    → ((p : ℕ) → p < length figures → which p ≡ which′ p) → renewed g figures which ≡ renewed g′ figures which′
 unfolding renewed bound
 renewed-agree figures which which′ same w = tabulate-ext _ _ (length figures) (λ p l. rw (w p l, degree-agree (length figures) p l same))
 
@@ -65,13 +67,15 @@ module _ {s t : State} (h : Alike s t) (a b : ℕ) where
     same-marks : SameBits (markBits (size s)) (staleTo (touched (graph s) a b) (s .marks) (size s)) (staleTo (touched (graph t) a b) (t .marks) (size t))
     same-marks = rw (← alike-nodes h) (same-stale-to (touched (graph s) a b) (touched (graph t) a b) (size s) same-touched (h .marks))
 
-    edited-alike : (on : Bool) (which which′ : ℕ → Bool) → ((p : ℕ) → p < size s → which p ≡ which′ p) → Alike (edited s a b on which) (edited t a b on which′)
+    edited-alike : (on : Bool) (which which′ : ℕ → Bool) → ((p : ℕ) → p < size s → which p ≡ which′ p)
+        → Alike (edited s a b on which) (edited t a b on which′)
     unfolding edited
     edited-alike on which which′ w =
         let edges = same-with-edge a b on (h .edges) in
         alike-by (edited s a b on which) (edited t a b on which′) (size s) (edited-size s a b on which)
         edges
-        (renewed-agree (s .figures) which which′ (same-agree edges) w ∙ ap (λ figures. renewed (edge (withEdge (t .edges) a b on)) figures which′) (h .figures))
+        (renewed-agree (s .figures) which which′ (same-agree edges) w
+        ∙ ap (λ figures. renewed (edge (withEdge (t .edges) a b on)) figures which′) (h .figures))
         same-marks
 
     pub added-alike : Alike (added s a b) (added t a b)
@@ -92,7 +96,7 @@ module _ {s t : State} (h : Alike s t) (a b : ℕ) where
 
   pub add-alike : AlikeOutcome (addCall s a b) (addCall t a b)
   unfolding addCall
-  add-alike = outcome-alike h _ _ _ _ (lengths-alike h _ _ add-same) (λ z.
+  add-alike = outcome-alike h _ _ _ _ (rest-alike h _ _ add-same) (λ z.
       let d = add-accepted (size s) (graph s) a b _ (lengths-rest s _ z) in added-alike (d .first) (d .second))
 
   remove-same : refusal (removeConditions (size s) (graph s) a b) ≡ refusal (removeConditions (size t) (graph t) a b)
@@ -100,5 +104,5 @@ module _ {s t : State} (h : Alike s t) (a b : ℕ) where
 
   pub remove-alike : AlikeOutcome (removeCall s a b) (removeCall t a b)
   unfolding removeCall
-  remove-alike = outcome-alike h _ _ _ _ (lengths-alike h _ _ remove-same) (λ z.
+  remove-alike = outcome-alike h _ _ _ _ (rest-alike h _ _ remove-same) (λ z.
       let d = remove-accepted (size s) (graph s) a b (lengths-rest s _ z) in removed-alike (d .first) (d .second))

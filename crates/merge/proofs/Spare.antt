@@ -5,7 +5,7 @@ use mathlib.Core.Path.{ap₂, _∙_, _≡_}
 use Prim.Native.Nat.{_<_, suc, zero, ℕ, _≤_}
 use native.Mathlib.Nat.{le-refl}
 use native.Mathlib.Omega.{arith}
-use Rattle.calls.proofs.Spare.{lengths-alike, outcome-alike, outcome-spare}
+use Rattle.calls.proofs.Spare.{outcome-alike, outcome-spare, rest-alike}
 use Rattle.edits.proofs.Spare.{added-alike, added-spare, removed-alike, removed-spare}
 use Rattle.merge.proofs.MergeLaws.{reconcile-agree}
 use Rattle.merge.specs.Reconcile.{adding, merged, overPairs, overRow, reconcileCall, reconcileConditions, reconciled, removing, takes}
@@ -40,7 +40,8 @@ chosen {s} c d e {x} {y} {x′} {y′} p q = rw e (either d)
     either true = p
     either false = q
 
-module _ {s t : State} (h : Alike s t) {theirs theirs′ base base′ : List ℕ} (e : SameBits (pairCount (size s)) theirs theirs′) (f : SameBits (pairCount (size s)) base base′) where
+module _ {s t : State} (h : Alike s t) {theirs theirs′ base base′ : List ℕ}
+    (e : SameBits (pairCount (size s)) theirs theirs′) (f : SameBits (pairCount (size s)) base base′) where
   module _ (a b : ℕ) (ha : a < size s) (hb : b < size s) where
     same-takes : takes (graph s) (edge theirs) (edge base) a b ≡ takes (graph t) (edge theirs′) (edge base′) a b
     unfolding takes
@@ -82,7 +83,7 @@ module _ {s t : State} (h : Alike s t) {theirs theirs′ base base′ : List ℕ
 
   pub reconcile-alike : AlikeOutcome (reconcileCall s theirs base) (reconcileCall t theirs′ base′)
   unfolding reconcileCall
-  reconcile-alike = outcome-alike h _ _ _ _ (lengths-alike h _ _ reconcile-same) (λ z. both-reconciled .1)
+  reconcile-alike = outcome-alike h _ _ _ _ (rest-alike h _ _ reconcile-same) (λ z. both-reconciled .1)
 
 pub reconcile-spare : (s : State) (theirs base : List ℕ) → SpareKept s (reconcileCall s theirs base .after)
 unfolding reconcileCall

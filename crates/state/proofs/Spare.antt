@@ -74,7 +74,8 @@ module _ {places : ℕ → Type 0} where
   unfolding withMark
   same-with-mark p on e = same-with-bit p on e
 
-  pub same-stale-to : {x y : List ℕ} (f g : ℕ → Bool) (n : ℕ) → ((p : ℕ) → p < n → f p ≡ g p) → SameAt places x y → SameAt places (staleTo f x n) (staleTo g y n)
+  pub same-stale-to : {x y : List ℕ} (f g : ℕ → Bool) (n : ℕ) → ((p : ℕ) → p < n → f p ≡ g p) → SameAt places x y
+      → SameAt places (staleTo f x n) (staleTo g y n)
   unfolding staleTo
   same-stale-to f g zero h e = e
   same-stale-to f g (suc n) h e =

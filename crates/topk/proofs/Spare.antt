@@ -9,7 +9,7 @@ use borrow.Author.Tests.{eq-eqb, ne-eqb}
 use lib.ListN.{drop, length, length-set, replicate, set}
 use Rattle.arith.proofs.Tests.{test}
 use Rattle.arith.specs.Sums.{bit}
-use Rattle.calls.proofs.Spare.{lengths-alike}
+use Rattle.calls.proofs.Spare.{rest-alike}
 use Rattle.ego.proofs.Agreement.{score-agree}
 use Rattle.ego.specs.Score.{score}
 use Rattle.state.proofs.CrowdedLaws.{before-agree}
@@ -45,7 +45,8 @@ module _ (T : ℕ → ℕ) (k : ℕ) where
       let s′ = steps T k t s in
       let n = length (s′ .figures) in
       same-trans (steps-spare s t)
-      (subst (λ m. SameSpare (markBits m) (s′ .marks) (step T k s′ .marks)) (steps-lengths T k t s .figures) (step-at-spare s′ n (bestBelow s′ n) (best s′ n)))
+      (subst (λ m. SameSpare (markBits m) (s′ .marks) (step T k s′ .marks)) (steps-lengths T k t s .figures)
+      (step-at-spare s′ n (bestBelow s′ n) (best s′ n)))
 
   listed-spare : (F M : List ℕ) → SameSpare (markBits (length F)) M (listed T k F M .marks)
   unfolding listed
@@ -88,7 +89,11 @@ module _ (T U : ℕ → ℕ) (k n : ℕ) (agree : (p : ℕ) → p < n → T p �
     took-beside p l = record {
       nodes = length-set (s .figures) p (worth T s p) ∙ nodes;
       others = ap₂ (λ w b. record {
-        figures = set (s .figures) p w; marks = withMark M p false; taken = set (s .taken) p 1; kept = keep k (entry p w) (s .kept); recomputed = s .recomputed + bit b
+        figures = set (s .figures) p w;
+        marks = withMark M p false;
+        taken = set (s .taken) p 1;
+        kept = keep k (entry p w) (s .kept);
+        recomputed = s .recomputed + bit b;
       }) (sym (same-worth p l)) (sym (same-stale e p l));
       marks = same-with-mark p false e;
     }
@@ -149,7 +154,7 @@ module _ {s t : State} (h : Alike s t) (entries scratch : List ℕ) where
   refusalOf u = refusal (lengths u ++ listConditions (size u) (graph u) k scratch)
 
   list-same : refusalOf s ≡ refusalOf t
-  list-same = lengths-alike h _ _ (rw (before-agree (size s) (graph s) (graph t) everyone everyone (alike-links h) (λ p l. refl), alike-nodes h))
+  list-same = rest-alike h _ _ (rw (before-agree (size s) (graph s) (graph t) everyone everyone (alike-links h) (λ p l. refl), alike-nodes h))
 
   pub list-alike : AlikeListed (listCall s entries scratch) (listCall t entries scratch)
   unfolding listCall
