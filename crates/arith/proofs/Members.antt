@@ -8,7 +8,7 @@ use native.Mathlib.Omega.{arith}
 use lib.ListN.{length}
 use Rattle.arith.proofs.Filter.{mem-filter}
 use Rattle.arith.proofs.Tests.{each, test}
-use Rattle.arith.specs.Lists.{concatMap, filter}
+use Rattle.arith.specs.Lists.{concatMap, Distinct, filter}
 
 module _ {A B : Type 0} where
   pub concat-ext : {F F′ : A → List B} (xs : List A) → ((x : A) → F x ≡ F′ x) → concatMap F xs ≡ concatMap F′ xs
@@ -40,10 +40,6 @@ mem-some (List·Memᴰ·head e) = omega arith
 mem-some (List·Memᴰ·tail m) = omega arith
 
 module _ {A : Type 0} where
-  abbrev pub Distinct : List A → Type 0
-  Distinct [] = Unit {0}
-  Distinct (x ∷ xs) = (List·Memᴰ x xs → ⊥) × Distinct xs
-
   pub distinct-append : (xs ys : List A) → Distinct xs → Distinct ys → ((z : A) → List·Memᴰ z xs → List·Memᴰ z ys → ⊥) → Distinct (xs ++ ys)
   distinct-append [] ys a b d = b
   distinct-append (x ∷ xs) ys a b d = (

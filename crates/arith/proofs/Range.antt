@@ -10,10 +10,11 @@ use borrow.Author.Tests.{eqb-false, eqb-true, ne-eqb}
 use lib.Dec.{eqb}
 use lib.ListN.{getD, length, length-append}
 use Rattle.arith.proofs.Filter.{filter-append}
-use Rattle.arith.proofs.Members.{Distinct}
 use Rattle.arith.proofs.Tests.{eqb-same, test}
 use Rattle.arith.specs.Lists.{concatMap, consIf, count, filter, range}
 use Rattle.arith.specs.Sums.{countTo, sumTo, tabulate}
+use Rattle.arith.specs.Lists.{concatMap, consIf, count, Distinct, filter, range}
+use Rattle.arith.specs.Sums.{countTo, sumTo}
 
 abbrev pub Up : ℕ → List ℕ → Type 0
 Up k [] = Unit {0}

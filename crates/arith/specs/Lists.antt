@@ -1,6 +1,6 @@
 -- Lists. Assumes nothing.
 use mathlib.Core.Bool.{Bool, true, false, _||_}
-use mathlib.Core.List.{List, [], _∷_, _++_, map}
+use mathlib.Core.List.{List, [], _∷_, _++_, map, List·Memᴰ}
 use Prim.Native.Nat.{ℕ, zero, suc, _+_}
 use lib.Dec.{eqb}
 use lib.ListN.{length}
@@ -24,6 +24,11 @@ module _ {A : Type 0} where
   abbrev pub pairs : List A → List (A × A)
   pairs [] = []
   pairs (x ∷ xs) = map (λ (y : A). (x, y)) xs ++ pairs xs
+
+  -- no element stands there twice
+  abbrev pub Distinct : List A → Type 0
+  Distinct [] = Unit {0}
+  Distinct (x ∷ xs) = (List·Memᴰ x xs → ⊥) × Distinct xs
 
   abbrev pub nonEmpty : List A → Bool
   nonEmpty [] = false

@@ -11,9 +11,9 @@ use lib.Dec.{eqb}
 use lib.ListN.{length}
 use Rattle.arith.proofs.Filter.{filter-in, mem-filter}
 use Rattle.arith.proofs.Least.{leastFrom-le, leastFrom-passes}
-use Rattle.arith.proofs.Members.{concat-in, Distinct, distinct-concat, distinct-filter, distinct-map, mem-concat}
+use Rattle.arith.proofs.Members.{concat-in, distinct-concat, distinct-filter, distinct-map, mem-concat}
 use Rattle.arith.proofs.Tests.{eqb-same, test}
-use Rattle.arith.specs.Lists.{filter, leastFrom, nonEmpty}
+use Rattle.arith.specs.Lists.{Distinct, filter, leastFrom, nonEmpty}
 use Rattle.ego.specs.Graph.{distance, Graph, Shortest, shortest, stay, step, Walk, walks}
 
 module _ (g : Graph) (h : List ℕ) where

@@ -6,10 +6,9 @@ use mathlib.Core.Path.{ap, refl, sym, _∙_}
 use Prim.Native.Nat.{ℕ}
 use native.Mathlib.Omega.{arith}
 use Rattle.arith.proofs.Filter.{mem-filter}
-use Rattle.arith.proofs.Members.{Distinct}
 use Rattle.arith.proofs.Range.{up-distinct}
 use Rattle.arith.proofs.Tests.{and-true, test}
-use Rattle.arith.specs.Lists.{filter, pairs}
+use Rattle.arith.specs.Lists.{Distinct, filter, pairs}
 use Rattle.ego.proofs.Complete.{all-shortest, once, shortest-are}
 use Rattle.ego.proofs.Shares.{first-linked, neighbours-linked, neighbours-up, pair-apart, pair-of, paths-linked, paths-unlinked, second-linked}
 use Rattle.ego.specs.Graph.{ego, Graph, neighbours, Shortest, shortest, Simple, stay, step, Walk}
