@@ -21,6 +21,10 @@ module _ {A : Type 0} where
   filter-mem f f′ [] e = refl
   filter-mem f f′ (x ∷ xs) e = rw (e x (List·Memᴰ·head refl), filter-mem f f′ xs (λ y m. e y (List·Memᴰ·tail m)))
 
+  pub filter-none : (f : A → Bool) (xs : List A) → ((x : A) → List·Memᴰ x xs → f x ≡ false) → filter f xs ≡ []
+  filter-none f [] e = refl
+  filter-none f (x ∷ xs) e = rw (e x (List·Memᴰ·head refl)) (filter-none f xs (λ y m. e y (List·Memᴰ·tail m)))
+
   pub mem-filter : (f : A → Bool) (xs : List A) {x : A} → List·Memᴰ x (filter f xs) → List·Memᴰ x xs × (f x ≡ true)
   mem-filter f [] m = absurd (List·Memᴰ·not-nil m)
   mem-filter f (y ∷ ys) {x} m = elim (test (f y)) [

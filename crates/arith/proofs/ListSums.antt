@@ -15,6 +15,10 @@ module _ {A : Type 0} where
   sum-mem f f′ [] e = refl
   sum-mem f f′ (x ∷ xs) e = rw (e x (List·Memᴰ·head refl), sum-mem f f′ xs (λ y m. e y (List·Memᴰ·tail m)))
 
+  pub sum-same : (f : A → ℕ) (b : ℕ) (xs : List A) → ((x : A) → List·Memᴰ x xs → f x ≡ b) → sum (map f xs) ≡ b * length xs
+  sum-same f b [] e = omega arith
+  sum-same f b (x ∷ xs) e = omega (arith, e x (List·Memᴰ·head refl), sum-same f b xs (λ y m. e y (List·Memᴰ·tail m)))
+
   pub sum-most : (f : A → ℕ) (b : ℕ) (xs : List A) → ((x : A) → f x ≤ b) → sum (map f xs) ≤ b * length xs
   sum-most f b [] h = omega arith
   sum-most f b (x ∷ xs) h = omega (arith, h x, sum-most f b xs h)

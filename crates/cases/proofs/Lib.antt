@@ -1,1 +1,2 @@
+pub mod NoLinks
 pub mod Table

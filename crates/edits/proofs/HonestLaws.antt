@@ -11,9 +11,10 @@ use lib.ListN.{getD-replicate, length, length-replicate, replicate}
 use Rattle.arith.proofs.Sums.{getD-tabulate, length-tabulate}
 use Rattle.arith.proofs.Tests.{or-false-both, test}
 use Rattle.arith.specs.Sums.{tabulate}
-use Rattle.ego.proofs.Agreement.{Agree, score-agree, score-none}
+use Rattle.ego.proofs.Agreement.{Agree, score-agree}
 use Rattle.ego.proofs.Bounds.{score-bound}
 use Rattle.ego.proofs.Changes.{common-at-most, common-lower, gains-degree, others-same}
+use Rattle.ego.proofs.Extremes.{unlinked-score}
 use Rattle.ego.proofs.FoundLaws.{simple-edges}
 use Rattle.ego.specs.Bound.{bound}
 use Rattle.ego.specs.Change.{Gains}
@@ -55,7 +56,7 @@ unfolding cleared
 cleared-figure n p l = getD-replicate n p 0 0 (omega (arith, length-replicate {A = ℕ} n 0))
 
 cleared-score : (n p : ℕ) → score (graph (cleared n)) n p ≡ 0
-cleared-score n p = score-none (graph (cleared n)) (simple-edges (cleared n .edges)) n p (λ q h. cleared-graph n p q)
+cleared-score n p = unlinked-score (graph (cleared n)) n p (λ q h. cleared-graph n p q)
 
 pub cleared-honest : (n : ℕ) → Honest (score (graph (cleared n)) n) (cleared n .figures) (cleared n .marks)
 cleared-honest n = record {

@@ -1,23 +1,17 @@
 -- Scores and degrees depend on the edges among the nodes below n alone. Assumes nothing.
-use mathlib.Core.Bool.{false}
 use mathlib.Core.List.{List·Memᴰ, List·Memᴰ·cases-cons}
 use mathlib.Core.Logic.{inl, inr}
 use mathlib.Core.Path.{sym, _∙_, _≡_}
-use Prim.Native.Nat.{_<_, zero-le, ℕ}
+use Prim.Native.Nat.{_<_, ℕ}
 use native.Mathlib.Nat.{zero-add}
-use native.Mathlib.Omega.{arith}
 use Rattle.arith.proofs.Filter.{mem-filter}
 use Rattle.arith.proofs.Range.{mem-range}
-use Rattle.arith.proofs.Sums.{countTo-ext, sumTo-le}
+use Rattle.arith.proofs.Sums.{countTo-ext}
 use Rattle.arith.specs.Lists.{range}
-use Rattle.arith.specs.Sums.{bit}
-use Rattle.ego.proofs.Bounds.{score-bound}
 use Rattle.ego.proofs.FoundLaws.{degree-is}
 use Rattle.ego.proofs.Local.{score-same}
-use Rattle.ego.specs.Bound.{bound}
-use Rattle.ego.specs.Graph.{degree, ego, Graph, neighbours, Simple}
+use Rattle.ego.specs.Graph.{degree, ego, Graph, neighbours}
 use Rattle.ego.specs.Score.{score}
-use Rattle.packed.specs.Pairs.{pairCount}
 
 -- two graphs have the same edges among the nodes below n
 abbrev pub Agree : ℕ → Graph → Graph → Type 0
@@ -42,10 +36,3 @@ module _ {g g′ : Graph} (n p : ℕ) (hp : p < n) (same : Agree n g g′) where
 
   pub degree-agree : degree g n p ≡ degree g′ n p
   degree-agree = degree-is g n p ∙ countTo-ext (g p) (g′ p) n (λ q. same p q hp) ∙ sym (degree-is g′ n p)
-
--- a node without edges scores 0
-pub score-none : (g : Graph) → Simple g → (n p : ℕ) → ((q : ℕ) → q < n → g p q ≡ false) → score g n p ≡ 0
-unfolding bound pairCount
-score-none g simple n p h =
-    let d : degree g n p ≡ 0 = omega (arith, degree-is g n p, sumTo-le (λ q. bit (g p q)) 0 n (λ q k. rw (h q k) zero-le)) in
-    omega (arith, rw d at (score-bound g simple n p))

@@ -4,6 +4,7 @@ pub mod Changes
 pub mod Complete
 pub mod Exact
 pub mod Examples
+pub mod Extremes
 pub mod Faithful
 pub mod FoundLaws
 pub mod Local
