@@ -1,4 +1,4 @@
--- Counts of the numbers below n that pass a test: none, all, and what a full count says. Assumes nothing.
+-- Counts of the numbers below n that pass a test: none, all, no fewer, and what a full count says. Assumes nothing.
 use mathlib.Core.Bool.{Bool, false, true}
 use mathlib.Core.Logic.{inl, inr}
 use mathlib.Core.Path.{ap, refl, _∙_, _≡_}
@@ -18,6 +18,14 @@ pub count-all : (f : ℕ → Bool) (n : ℕ) → ((q : ℕ) → q < n → f q �
 unfolding sumTo
 count-all f zero h = refl
 count-all f (suc n) h = rw (count-all f n (λ q l. h q (omega arith)), h n (omega arith)) (omega arith)
+
+-- where each that passes a test passes another, no fewer pass the other
+pub count-within : (f g : ℕ → Bool) (n : ℕ) → ((q : ℕ) → q < n → f q ≡ true → g q ≡ true) → countTo f n ≤ countTo g n
+unfolding sumTo
+count-within f g zero h = omega arith
+count-within f g (suc n) h =
+    let ih = count-within f g n (λ q l. h q (omega arith)) in
+    elim (test (f n)) [ inl t ↦ omega (arith, ih, ap bit t, ap bit (h n (omega arith) t)) | inr t ↦ omega (arith, ih, ap bit t) ]
 
 -- where as many pass as there are, each does
 pub count-full : (f : ℕ → Bool) (n q : ℕ) → countTo f n ≡ n → q < n → f q ≡ true

@@ -10,6 +10,7 @@ pub mod Pairs
 pub mod Places
 pub mod Range
 pub mod Rank
+pub mod Sets
 pub mod Sums
 pub mod Tests
 pub mod Words

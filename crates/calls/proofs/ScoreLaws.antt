@@ -6,7 +6,7 @@ use mathlib.Core.Path.{ap, sym, _∙_, _≡_}
 use Prim.Native.Nat.{_<_, ℕ, _≤_}
 use native.Mathlib.Decide.{ℕ-discrete}
 use native.Mathlib.Omega.{arith}
-use borrow.Author.Tests.{eq-eqb, le-ltb, lt-ltb, ne-eqb}
+use borrow.Author.Tests.{eq-eqb, leb-false, le-ltb, ltb-false, lt-ltb, ne-eqb}
 use lib.Dec.{eqb, ltb}
 use lib.ListN.{length}
 use Rattle.arith.proofs.Sums.{anyTo-here, anyTo-never}
@@ -17,7 +17,9 @@ use Rattle.ego.specs.Score.{score}
 use Rattle.packed.specs.Edges.{edge}
 use Rattle.state.proofs.RefusalLaws.{append-refused, passed-before, passed-node, refusal-none, refused-before, refused-node, Sized, sized-append}
 use Rattle.state.specs.Outcome.{edgeLengths}
-use Rattle.state.specs.Refusal.{Condition, crowdedBefore, nodeNumber, refusal, tooMany}
+use Rattle.state.specs.Refusal.{bufferLength, Condition, crowdedBefore, nodeCount, nodeNumber, refusal, tooMany}
+use Rattle.state.specs.Sizes.{edgeBytes}
+use Rattle.calls.proofs.AcceptLaws.{passes}
 use Rattle.calls.specs.Score.{scoreCall}
 use Rattle.calls.specs.declared.score.Scored.{Scored}
 
@@ -60,3 +62,24 @@ module _ (edges : List ℕ) (n p : ℕ) where
               ∙ passed-before [] (edge edges) n (eqb p) (one-over (edge edges) n p h ∙ le-ltb _ _ k) ∙ refusal-none,
           q,
         )
+
+  -- ---- a call that is accepted
+
+  module _ (z : scoreCall edges n p .refusal ≡ 0) where
+    node-fits : (p < n) × (degree (edge edges) n p ≤ limit)
+    unfolding scoreCall nodeCount bufferLength nodeNumber crowdedBefore
+    node-fits =
+        let a = passes (nodeCount n) _ (λ e. omega arith) z in
+        let b = passes (bufferLength (edgeBytes n) (length edges)) _ (λ e. omega arith) (a .1) in
+        let c = passes (nodeNumber n p) _ (λ e. omega arith) (b .1) in
+        let d = passes (crowdedBefore (edge edges) n (eqb p)) [] (λ e. omega arith) (c .1) in
+        let h = leb-false n p (c .0) in
+        (h, ltb-false limit (degree (edge edges) n p) (sym (one-over (edge edges) n p h) ∙ d .0))
+
+    -- what the named node keeps to
+    pub accepted-degree : degree (edge edges) n p ≤ limit
+    accepted-degree = node-fits .1
+
+    pub accepted-score : scoreCall edges n p .score ≡ score (edge edges) n p
+    unfolding scoreCall
+    accepted-score = rw z

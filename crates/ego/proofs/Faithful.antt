@@ -3,14 +3,15 @@ use mathlib.Core.Bool.{_&&_, true≢false}
 use mathlib.Core.List.{[], List, List·Memᴰ, List·Memᴰ·cases-cons, List·Memᴰ·eq-of-singleton, List·Memᴰ·head, List·Memᴰ·not-nil, List·Memᴰ·tail, Memᴰ·of-map, _∷_}
 use mathlib.Core.Logic.{inl, inr, _↔_, _≢_}
 use mathlib.Core.Path.{ap, refl, sym, _∙_}
-use Prim.Native.Nat.{ℕ}
+use Prim.Native.Nat.{_<_, ℕ}
 use native.Mathlib.Omega.{arith}
+use lib.ListN.{length}
 use Rattle.arith.proofs.Filter.{mem-filter}
 use Rattle.arith.proofs.Range.{up-distinct}
 use Rattle.arith.proofs.Tests.{and-true, test}
 use Rattle.arith.specs.Lists.{Distinct, filter, pairs}
 use Rattle.ego.proofs.Complete.{all-shortest, once, shortest-are}
-use Rattle.ego.proofs.Shares.{first-linked, neighbours-linked, neighbours-up, pair-apart, pair-of, paths-linked, paths-unlinked, second-linked}
+use Rattle.ego.proofs.Shares.{first-linked, neighbours-linked, neighbours-up, pair-apart, pair-of, paths-count, paths-linked, paths-unlinked, second-linked}
 use Rattle.ego.specs.Graph.{ego, Graph, neighbours, Shortest, shortest, Simple, stay, step, Walk}
 
 ends : (u v : ℕ) → u ≢ v → Distinct (u ∷ v ∷ [])
@@ -44,6 +45,13 @@ module _ (g : Graph) (simple : Simple g) (n p : ℕ) where
       shortest-are g (ego g n p) u v,
       all-shortest g (ego g n p) u v {o = u ∷ p ∷ v ∷ []} way (omega (arith, pair-of g simple n p m .two)),
     )
+
+    -- there is one at least
+    pub some-path : 0 < length (shortest g (ego g n p) u v)
+    some-path = elim (test (g u v)) [
+      | inl e ↦ rw (paths-linked g simple n p m e) (omega arith)
+      | inr e ↦ rw (paths-unlinked g simple n p m e) (omega (arith, paths-count g simple n p m))
+    ]
 
     -- and none meets a node twice
     pub no-repeat : (l : List ℕ) → List·Memᴰ l (shortest g (ego g n p) u v) → Distinct l

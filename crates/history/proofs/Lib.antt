@@ -1,3 +1,4 @@
+pub mod Demand2
 pub mod ListStep
 pub mod Steps
 pub mod Theorem

@@ -1,0 +1,91 @@
+-- DEMAND 2, proved; and its records let through one outcome alone. Assumes nothing.
+use mathlib.Core.Bool.{Bool, cond, false, true, true≢false}
+use mathlib.Core.List.{List, List·Memᴰ}
+use mathlib.Core.Logic.{inl, inr, Iff·symm, Iff·trans, _↔_, _≢_, _⊎_}
+use mathlib.Core.Path.{ap, refl, sym, _∙_, _≡_}
+use Prim.Native.Nat.{_*_, _/_, ℕ, _≤_}
+use native.Mathlib.Nat.{mul-div-cancel}
+use lib.ListN.{length}
+use Rattle.arith.proofs.ListSums.{sum-mem}
+use Rattle.arith.proofs.Sets.{same-count, same-length}
+use Rattle.arith.specs.Lists.{pairs}
+use Rattle.calls.proofs.ScoreLaws.{accepted-degree, accepted-score}
+use Rattle.ego.proofs.Exact.{share-exact}
+use Rattle.ego.proofs.Faithful.{each-once, just-these, some-path}
+use Rattle.ego.proofs.FoundLaws.{simple-edges}
+use Rattle.ego.specs.Graph.{degree, ego, Graph, inner, neighbours, shortest, Simple}
+use Rattle.ego.specs.Limits.{limit, unit}
+use Rattle.ego.specs.Score.{score, share}
+use Rattle.history.specs.Demand2.{Demand2, EgoBetweenness, Reconciled, Share}
+use Rattle.merge.proofs.MergeLaws.{pair-stands}
+use Rattle.packed.specs.Bits.{differ}
+use Rattle.packed.specs.Edges.{edge}
+
+-- ---- the score
+
+-- the score by the definition is the ego-betweenness, where p is within the limit
+pub score-exact : (g : Graph) → Simple g → (n p : ℕ) → degree g n p ≤ limit → EgoBetweenness g n p (score g n p)
+unfolding score
+score-exact g simple n p few = record {
+  shareOf = share g n p;
+  shares = λ u v m. record {
+    paths = shortest g (ego g n p) u v;
+    these = record { all = just-these g simple n p m; once = each-once g simple n p m; some = some-path g simple n p m };
+    counted = share-exact g simple n p few m;
+  };
+  total = refl;
+}
+
+-- ---- one pair of a reconcile
+
+stands : (mine theirs original : Bool) → Reconciled mine theirs original (cond (differ theirs original) theirs (cond (differ mine original) mine original))
+stands true true true = record { iChanged = λ d. refl; theyChanged = λ d. refl; nobodyChanged = λ e f. refl }
+stands true true false = record { iChanged = λ d. refl; theyChanged = λ d. refl; nobodyChanged = λ e f. absurd (true≢false e) }
+stands true false true = record { iChanged = λ d. absurd (d refl); theyChanged = λ d. refl; nobodyChanged = λ e f. absurd (true≢false (sym f)) }
+stands true false false = record { iChanged = λ d. refl; theyChanged = λ d. absurd (d refl); nobodyChanged = λ e f. absurd (true≢false e) }
+stands false true true = record { iChanged = λ d. refl; theyChanged = λ d. absurd (d refl); nobodyChanged = λ e f. absurd (true≢false (sym e)) }
+stands false true false = record { iChanged = λ d. absurd (d refl); theyChanged = λ d. refl; nobodyChanged = λ e f. absurd (true≢false f) }
+stands false false true = record { iChanged = λ d. refl; theyChanged = λ d. refl; nobodyChanged = λ e f. absurd (true≢false (sym e)) }
+stands false false false = record { iChanged = λ d. refl; theyChanged = λ d. refl; nobodyChanged = λ e f. refl }
+
+-- DEMAND 2
+pub demand2 : Demand2
+demand2 = record {
+  scores = λ edges n p z. rw (accepted-score edges n p z) (score-exact (edge edges) (simple-edges edges) n p (accepted-degree edges n p z));
+  merges = λ s theirs base z a b ha hb. rw (pair-stands s theirs base z a b ha hb) (stands _ _ _);
+}
+
+-- ---- one outcome alone
+
+module _ {g : Graph} {n p : ℕ} where
+  one-share : {u v r r′ : ℕ} → Share g n p u v r → Share g n p u v r′ → r ≡ r′
+  one-share {u} {v} {r} {r′} s t =
+      let same : (path : List ℕ) → List·Memᴰ path (s .paths) ↔ List·Memᴰ path (t .paths) = λ path. Iff·trans (s .these .all path) (Iff·symm (t .these .all path)) in
+      let paths = same-length (s .paths) (t .paths) (s .these .once) (t .these .once) same in
+      let through = same-count (s .paths) (t .paths) (s .these .once) (t .these .once) same (inner p) in
+      sym (mul-div-cancel r (s .these .some))
+      ∙ ap (λ m. m / length (s .paths)) (s .counted ∙ ap (λ m. unit * m) through ∙ sym (t .counted) ∙ ap (λ m. r′ * m) (sym paths))
+      ∙ mul-div-cancel r′ (s .these .some)
+
+  -- a node has one ego-betweenness
+  pub one-score : {r r′ : ℕ} → EgoBetweenness g n p r → EgoBetweenness g n p r′ → r ≡ r′
+  one-score s t =
+      s .total
+      ∙ sum-mem (s .shareOf) (t .shareOf) (pairs (neighbours g n p)) (λ c m. one-share (s .shares (c .0) (c .1) m) (t .shares (c .0) (c .1) m))
+      ∙ sym (t .total)
+
+-- and a pair one state
+pub one-state : {mine theirs original after after′ : Bool} → Reconciled mine theirs original after → Reconciled mine theirs original after′ → after ≡ after′
+one-state {mine} {theirs} {original} h k = elim (same mine original) [
+  | inr d ↦ h .iChanged d ∙ sym (k .iChanged d)
+  | inl e ↦ elim (same theirs original) [
+    | inr d ↦ h .theyChanged d ∙ sym (k .theyChanged d)
+    | inl f ↦ h .nobodyChanged e f ∙ sym (k .nobodyChanged e f)
+  ]
+]
+  where
+    same : (x y : Bool) → (x ≡ y) ⊎ (x ≢ y)
+    same true true = inl refl
+    same true false = inr true≢false
+    same false true = inr (λ e. true≢false (sym e))
+    same false false = inl refl
