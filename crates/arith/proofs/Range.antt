@@ -65,6 +65,9 @@ pub tabulate-range : (n : ℕ) → tabulate (λ i. i) n ≡ range 0 n
 unfolding tabulate
 tabulate-range zero = refl
 tabulate-range (suc n) = ap (λ l. l ++ n ∷ []) (tabulate-range n) ∙ sym (range-last 0 n ∙ ap (λ i. range 0 n ++ i ∷ []) (zero-add n))
+pub range-append : (k m n : ℕ) → range k m ++ range (k + m) n ≡ range k (m + n)
+range-append k zero n = rw (add-zero, zero-add)
+range-append k (suc m) n = rw (add-suc k m, ← suc-add k m, suc-add m n) (ap (λ l. k ∷ l) (range-append (suc k) m n))
 
 pub filter-last : (q : ℕ → Bool) (n : ℕ) → filter q (range 0 (suc n)) ≡ filter q (range 0 n) ++ consIf (q n) n []
 filter-last q n = ap (filter q) (range-last 0 n ∙ ap (λ i. range 0 n ++ i ∷ []) (zero-add n)) ∙ filter-append q (range 0 n) (n ∷ [])

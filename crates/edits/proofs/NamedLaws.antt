@@ -1,15 +1,16 @@
--- What an edit that is accepted knows of its pair. Assumes nothing.
+-- What an edit that is accepted knows of its pair, and when an edit of such a pair is accepted. Assumes nothing.
 use mathlib.Core.Bool.{Bool, false, true}
-use mathlib.Core.List.{List, _∷_}
+use mathlib.Core.List.{[], List, _∷_}
 use mathlib.Core.Logic.{_≢_}
-use mathlib.Core.Path.{_≡_}
+use mathlib.Core.Path.{_∙_, _≡_}
 use Prim.Native.Nat.{_<_, ℕ}
 use native.Mathlib.Omega.{arith}
 use borrow.Author.Tests.{eqb-false, leb-false, not-false}
 use Rattle.ego.specs.Graph.{Graph}
 use Rattle.calls.proofs.AcceptLaws.{passes}
 use Rattle.edits.specs.Edit.{addConditions, removeConditions}
-use Rattle.state.specs.Refusal.{Condition, edgeAbsent, edgePresent, nodeNumber, refusal, sameNodes}
+use Rattle.state.proofs.RefusalLaws.{passed-absent, passed-after, passed-before, passed-node, passed-present, passed-same, refusal-none}
+use Rattle.state.specs.Refusal.{Condition, edgeAbsent, edgePresent, ends, nodeNumber, refusal, sameNodes, tooMany, touched}
 
 -- a and b are two nodes, and linked or not
 pub record Named (n : ℕ) (g : Graph) (a b : ℕ) (on : Bool) : Type 0 where
@@ -38,3 +39,15 @@ module _ (n : ℕ) (g : Graph) (a b : ℕ) where
   remove-accepted e =
       let r = two-named _ e in
       record { first = r .0; second = r .1; two = r .2; was = not-false (g a b) (passes (edgeAbsent g a b) _ (λ z. omega arith) (r .3) .0) }
+
+  -- AN EDIT OF SUCH A PAIR is accepted where the nodes that it looks at keep to the limit.
+  pub add-passed : (g′ : Graph) → Named n g a b false → tooMany g n (touched g a b) ≡ false → tooMany g′ n (ends a b) ≡ false
+      → refusal (addConditions n g g′ a b) ≡ 0
+  add-passed g′ d h k =
+      passed-node _ n a (d .first) ∙ passed-node _ n b (d .second) ∙ passed-same _ a b (d .two) ∙ passed-present _ g a b (d .was)
+      ∙ passed-before _ g n (touched g a b) h ∙ passed-after [] g′ n (ends a b) k ∙ refusal-none
+
+  pub remove-passed : Named n g a b true → tooMany g n (touched g a b) ≡ false → refusal (removeConditions n g a b) ≡ 0
+  remove-passed d h =
+      passed-node _ n a (d .first) ∙ passed-node _ n b (d .second) ∙ passed-same _ a b (d .two) ∙ passed-absent _ g a b (d .was)
+      ∙ passed-before [] g n (touched g a b) h ∙ refusal-none

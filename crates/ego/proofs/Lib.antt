@@ -11,4 +11,5 @@ pub mod Local
 pub mod Shares
 pub mod Walks
 pub mod WithPair
+pub mod Within
 pub mod WordLaws

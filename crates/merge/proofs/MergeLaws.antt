@@ -3,7 +3,7 @@ use mathlib.Core.Bool.{_&&_, Bool, Bool·beq, cond, false, not, true, true≢fal
 use mathlib.Core.List.{List}
 use mathlib.Core.Logic.{inl, inr}
 use mathlib.Core.Path.{ap, refl, sym, _∙_, _≡_}
-use Prim.Native.Nat.{_<_, ℕ}
+use Prim.Native.Nat.{_+_, _<_, ℕ, _≤_}
 use native.Mathlib.Omega.{arith}
 use lib.ListN.{length}
 use Rattle.arith.proofs.Tests.{test}
@@ -11,13 +11,15 @@ use Rattle.arith.specs.Rank.{before}
 use Rattle.ego.proofs.Agreement.{Agree}
 use Rattle.ego.proofs.FoundLaws.{simple-edges}
 use Rattle.ego.proofs.WithPair.{pair-is}
+use Rattle.ego.proofs.Within.{Within}
 use Rattle.ego.specs.Change.{withPair}
 use Rattle.ego.specs.Graph.{Graph, Simple}
-use Rattle.merge.proofs.PairOrder.{over-pairs, over-same}
-use Rattle.merge.specs.Reconcile.{adding, merged, overPairs, reconcileCall, reconcileConditions, reconciled, removing, takes}
+use Rattle.merge.proofs.PairOrder.{halfway, halfway-within, over-pairs, over-same, over-some, some-same}
+use Rattle.merge.specs.Reconcile.{adding, merged, overPairs, overRow, reconcileCall, reconcileConditions, reconciled, removing, takes}
 use Rattle.merge.specs.Steps.{stepped}
 use Rattle.packed.specs.Bits.{differ}
 use Rattle.packed.specs.Edges.{edge}
+use Rattle.packed.specs.Pairs.{pairCount}
 use Rattle.calls.proofs.AcceptLaws.{lengths-fit, outcome-accepted, outcome-refusal}
 use Rattle.edits.proofs.NamedLaws.{Named}
 use Rattle.state.proofs.CrowdedLaws.{after-agree, before-agree}
@@ -102,22 +104,49 @@ pub merged-is : (mine theirs base : Graph) (a b : ℕ) → merged mine theirs ba
 unfolding merged takes
 merged-is mine theirs base a b = taken (theirs a b) (base a b) (mine a b)
 
-unfoldable thinned : Graph → Graph → Graph → Graph
+-- mine without the pairs that are removed
+unfoldable pub thinned : Graph → Graph → Graph → Graph
 thinned mine theirs base a b = cond (takes mine theirs base a b && not (theirs a b)) false (mine a b)
 
 module _ (mine theirs base : Graph) where
   -- the additions where `on`, the removals elsewhere: the graph before them, the graph after them, and the change at a pair
-  abbrev old : Bool → Graph
+  abbrev pub old : Bool → Graph
   old true = thinned mine theirs base
   old false = mine
 
-  abbrev new : Bool → Graph
+  abbrev pub new : Bool → Graph
   new true = merged mine theirs base
   new false = thinned mine theirs base
 
-  abbrev taking : Bool → ℕ → ℕ → State → State
+  abbrev pub taking : Bool → ℕ → ℕ → State → State
   taking true = adding mine theirs base
   taking false = removing mine theirs base
+
+  -- whether a pair is added, or removed; before that it was not there, or was
+  abbrev pub chosen : Bool → Graph
+  chosen true a b = takes mine theirs base a b && theirs a b
+  chosen false a b = takes mine theirs base a b && not (theirs a b)
+
+  pub chosen-was : (on : Bool) (a b : ℕ) → chosen on a b ≡ true → old on a b ≡ not on
+  unfolding thinned takes
+  chosen-was true a b = come-was (theirs a b) (base a b) (mine a b)
+  chosen-was false a b = gone-was (theirs a b) (base a b) (mine a b)
+
+  -- each graph on the way lies within mine during the removals, and within the merged graph during the additions
+  abbrev pub cover : Bool → Graph
+  cover true = merged mine theirs base
+  cover false = mine
+
+  pub way-within : (n : ℕ) (on : Bool) (i : ℕ) → Within n (halfway (new on) (old on) i) (cover on)
+  unfolding thinned merged takes
+  way-within n true i = halfway-within i (λ a b ha hb t. t) (λ a b ha hb t. elim (test (chosen true a b)) [
+    | inl q ↦ come-is (theirs a b) (base a b) (mine a b) q
+    | inr q ↦ stay-is (theirs a b) (base a b) (mine a b) q ∙ t
+  ])
+  way-within n false i = halfway-within i (λ a b ha hb t. elim (test (chosen false a b)) [
+    | inl q ↦ absurd (true≢false (sym (rw q at t)))
+    | inr q ↦ rw q at t
+  ]) (λ a b ha hb t. t)
 
   module _ (m : Simple mine) (t : Simple theirs) (o : Simple base) where
     thinned-simple : Simple (thinned mine theirs base)
@@ -171,11 +200,21 @@ module _ (mine theirs base : Graph) where
     same false a b h l g s e p = rw (shows g s p .links a b (omega arith) l ∙ e, is-gone (theirs a b))
 
     module _ (m : Simple mine) (t : Simple theirs) (o : Simple base) where
-      all-done : (on : Bool) (s : State) → P (old on) s → P (new on) (overPairs (taking on) n s)
+      pub all-done : (on : Bool) (s : State) → P (old on) s → P (new on) (overPairs (taking on) n s)
       all-done on = over-pairs (new on) (old on) (new-simple m t o on) (old-simple m t o on) n P agree (taking on) (does on)
 
-      all-same : (on : Bool) (s : State) → P (old on) s → overPairs (stepped on theirs base) n s ≡ overPairs (taking on) n s
+      pub all-same : (on : Bool) (s : State) → P (old on) s → overPairs (stepped on theirs base) n s ≡ overPairs (taking on) n s
       all-same on = over-same (new on) (old on) (new-simple m t o on) (old-simple m t o on) n P agree (taking on) (does on) (stepped on theirs base) (same on)
+
+      -- on the way, after the rows before b and the first a pairs of b
+      pub some-done : (on : Bool) (a b : ℕ) (s : State) → a ≤ b → b < n → P (old on) s
+          → P (halfway (new on) (old on) (pairCount b + a)) (overRow (taking on) b a (overPairs (taking on) b s))
+      some-done on = over-some (new on) (old on) (new-simple m t o on) (old-simple m t o on) n P agree (taking on) (does on)
+
+      pub some-stepped : (on : Bool) (a b : ℕ) (s : State) → a ≤ b → b < n → P (old on) s
+          → overRow (stepped on theirs base) b a (overPairs (stepped on theirs base) b s) ≡ overRow (taking on) b a (overPairs (taking on) b s)
+      some-stepped on =
+          some-same (new on) (old on) (new-simple m t o on) (old-simple m t o on) n P agree (taking on) (does on) (stepped on theirs base) (same on)
 
       module _ (s : State) (p : P mine s) where
         merges : P (merged mine theirs base) (overPairs (adding mine theirs base) n (overPairs (removing mine theirs base) n s))

@@ -1,6 +1,6 @@
 -- A change made at each pair in bit order is made once at each pair. Assumes nothing.
 use mathlib.Core.Bool.{cond, false}
-use mathlib.Core.Logic.{_≢_}
+use mathlib.Core.Logic.{inl, inr, _≢_}
 use mathlib.Core.Path.{ap, refl, sym, _∙_, _≡_}
 use Prim.Native.Nat.{_+_, _<_, suc, zero, zero-le, ℕ, _≤_}
 use native.Mathlib.Decide.{decLt, ℕ-discrete}
@@ -8,8 +8,10 @@ use native.Mathlib.Nat.{add-zero, le-refl}
 use native.Mathlib.Omega.{arith}
 use borrow.Author.Tests.{le-ltb, lt-ltb}
 use lib.Dec.{ltb}
+use Rattle.arith.proofs.Tests.{test}
 use Rattle.ego.proofs.Agreement.{Agree}
 use Rattle.ego.proofs.WithPair.{apart-numbers, pair-elsewhere, pair-is}
+use Rattle.ego.proofs.Within.{Within}
 use Rattle.ego.specs.Change.{withPair}
 use Rattle.ego.specs.Graph.{Graph, Simple}
 use Rattle.merge.specs.Reconcile.{overPairs, overRow}
@@ -18,7 +20,7 @@ use Rattle.packed.specs.Pairs.{pairCount, pairIndex}
 use Rattle.state.specs.State.{State}
 
 -- the pairs numbered below i as in `new`, the others as in `old`
-unfoldable halfway : Graph → Graph → ℕ → Graph
+unfoldable pub halfway : Graph → Graph → ℕ → Graph
 halfway new old i x y = cond (ltb (pairIndex x y) i) (new x y) (old x y)
 
 module _ (new old : Graph) (i x y : ℕ) where
@@ -29,6 +31,18 @@ module _ (new old : Graph) (i x y : ℕ) where
   is-old : i ≤ pairIndex x y → halfway new old i x y ≡ old x y
   unfolding halfway
   is-old h = rw (le-ltb (pairIndex x y) i h)
+
+-- it lies within each graph that both lie within
+pub halfway-within : {n : ℕ} {new old g : Graph} (i : ℕ) → Within n new g → Within n old g → Within n (halfway new old i) g
+unfolding halfway
+halfway-within i w v a b ha hb t = elim (test (ltb (pairIndex a b) i)) [
+  | inl e ↦ w a b ha hb (rw e at t)
+  | inr e ↦ v a b ha hb (rw e at t)
+]
+
+-- the pair that comes next is still as in `old`
+pub halfway-next : (new old : Graph) (a b : ℕ) → a < b → halfway new old (pairCount b + a) a b ≡ old a b
+halfway-next new old a b h = is-old new old (pairCount b + a) a b (omega (arith, pair-less a b h))
 
 module _ (new old : Graph) (fresh : Simple new) (past : Simple old) where
   no-loop : (i x y : ℕ) → x ≡ y → halfway new old i x y ≡ false
@@ -75,6 +89,10 @@ module _ (new old : Graph) (fresh : Simple new) (past : Simple old) where
       | no d ↦ is-new new old (pairCount n) x y (pair-lt x y n d hx hy)
     ]) (rows n s (le-refl n) p)
 
+    -- ON THE WAY, after the rows before b and the first a pairs of b
+    pub over-some : (a b : ℕ) (s : State) → a ≤ b → b < n → P old s → P (halfway new old (pairCount b + a)) (overRow change b a (overPairs change b s))
+    over-some a b s h l p = row a b (overPairs change b s) h l (rows b s (omega arith) p)
+
     -- another change that does the same wherever the pair still is as in `old`
     module _ (other : ℕ → ℕ → State → State)
         (same : (a b : ℕ) → a < b → b < n → (g : Graph) (s : State) → g a b ≡ old a b → P g s → other a b s ≡ change a b s) where
@@ -93,3 +111,6 @@ module _ (new old : Graph) (fresh : Simple new) (past : Simple old) where
 
       pub over-same : (s : State) → P old s → overPairs other n s ≡ overPairs change n s
       over-same s p = rows-same n s (le-refl n) p
+
+      pub some-same : (a b : ℕ) (s : State) → a ≤ b → b < n → P old s → overRow other b a (overPairs other b s) ≡ overRow change b a (overPairs change b s)
+      some-same a b s h l p = ap (overRow other b a) (rows-same b s (omega arith) p) ∙ row-same a b (overPairs change b s) h l (rows b s (omega arith) p)

@@ -1,5 +1,6 @@
 pub mod CrowdedLaws
 pub mod DegreeLaws
+pub mod LimitLaws
 pub mod MarkLaws
 pub mod RefusalLaws
 pub mod Spare

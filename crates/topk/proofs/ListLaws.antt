@@ -1,18 +1,15 @@
 -- The answers of the list call: where it is refused, what it knows where it is not, and what it leaves then. Assumes nothing.
-use mathlib.Core.Bool.{false, true≢false}
 use mathlib.Core.List.{_++_, [], List, _∷_}
 use mathlib.Core.Logic.{inl, inr}
 use mathlib.Core.Path.{refl, sym, _∙_, _≡_}
 use Prim.Native.Nat.{_<_, ℕ, _≤_}
 use native.Mathlib.Decide.{decLt, ℕ-discrete}
 use native.Mathlib.Omega.{arith}
-use borrow.Author.Tests.{lt-ltb, ne-eqb}
+use borrow.Author.Tests.{ne-eqb}
 use lib.ListN.{drop, length, replicate}
-use Rattle.arith.proofs.Sums.{anyTo-false}
 use Rattle.arith.proofs.Tests.{test}
-use Rattle.ego.specs.Graph.{degree}
-use Rattle.ego.specs.Limits.{limit}
 use Rattle.packed.specs.Edges.{edge}
+use Rattle.state.proofs.LimitLaws.{few-each}
 use Rattle.state.proofs.RefusalLaws.{append-refused, Fitted, fitted-append, fitted-by, passed-listed, passed-scratch, refused-all-listed, refused-before, refused-none-listed, refused-scratch, sized-room}
 use Rattle.state.specs.Outcome.{lengths, state, stateLengths}
 use Rattle.state.specs.Refusal.{Condition, crowdedBefore, everyone, listLength, refusal, scratchLength, tooMany}
@@ -48,13 +45,6 @@ module _ (edges F M E C : List ℕ) where
     pub within : wanted E ≤ n
     pub scorable : Scorable n edges
 
-  few : tooMany (edge edges) n everyone ≡ false → (p : ℕ) → p < n → degree (edge edges) n p ≤ limit
-  unfolding tooMany
-  few e p h = let t = anyTo-false _ n e p h in elim (decLt limit (degree (edge edges) n p)) [
-    | yes l ↦ absurd (true≢false (sym (lt-ltb _ _ l) ∙ t))
-    | no l ↦ omega arith
-  ]
-
   fitted-passed : Fitted n (length edges) (length M) → refusal conditions ≡ 0 → Passed
   fitted-passed f e = elim (decLt (length C) n) [
     | yes h ↦ absurd (omega (arith, refused-scratch sizes n (length C) h))
@@ -64,7 +54,7 @@ module _ (edges F M E C : List ℕ) where
         | yes m ↦ absurd (omega (arith, passed-scratch sizes n (length C) (omega arith), refused-all-listed crowded n (wanted E) m))
         | no m ↦ elim (test (tooMany (edge edges) n everyone)) [
           | inl t ↦ absurd (omega (arith, passed-scratch sizes n (length C) (omega arith), passed-listed crowded n (wanted E) z (omega arith), refused-before [] (edge edges) n everyone t))
-          | inr t ↦ record { fitted = f; scratchFits = omega arith; some = omega arith; within = omega arith; scorable = record { room = sized-room (f .sizes); few = few t } }
+          | inr t ↦ record { fitted = f; scratchFits = omega arith; some = omega arith; within = omega arith; scorable = record { room = sized-room (f .sizes); few = few-each (edge edges) n t } }
         ]
       ]
     ]
