@@ -1,2 +1,5 @@
 pub mod NoLinks
+pub mod Reflect
+pub mod Sentences
 pub mod Table
+pub mod Wrong

@@ -1,4 +1,5 @@
 pub mod Demand2
 pub mod ListStep
+pub mod ModelLaws
 pub mod Steps
 pub mod Theorem

@@ -1,4 +1,5 @@
--- The list in a history, whichever way its entries are lent: its refusal is the model's, it is right by the model's scores, and it keeps the invariant. Assumes nothing.
+-- The list in a history, whichever way its entries are lent: its refusal is the model's, it is right by the model's scores, and it keeps the
+-- invariant. Assumes nothing.
 use mathlib.Core.Bool.{_&&_, and-comm, Bool, cond, false, not, true}
 use mathlib.Core.List.{List}
 use mathlib.Core.Logic.{inl, inr}
@@ -12,10 +13,11 @@ use denote.Laws.{shows}
 use lib.Dec.{eqb, ltb}
 use lib.ListN.{getD, length, take}
 use Rattle.arith.proofs.Tests.{or-false-both, test}
+use Rattle.arith.specs.Sums.{countTo}
 use Rattle.ego.specs.Graph.{Graph}
 use Rattle.ego.specs.Score.{score}
-use Rattle.history.specs.History.{after, answer, AsRecords, best, InRow, Lists}
-use Rattle.history.specs.Model.{Call, list, listEntries}
+use Rattle.history.specs.History.{after, answer, best, effect, holding, Kept, ofList, ofRecords, out}
+use Rattle.history.specs.Model.{asRecords, Entries, inRow, list, room}
 use Rattle.calls.proofs.AcceptLaws.{lengths-pass, passes}
 use Rattle.edits.proofs.SameRefusal.{before-agree}
 use Rattle.edits.proofs.Sound.{Sound, sound-score}
@@ -26,9 +28,8 @@ use Rattle.listing.proofs.RecordLaws.{call-refused, call-taken, entries-refused
 use Rattle.topk.proofs.Theorem.{listed-right}
 use Rattle.topk.proofs.TurnLaws.{listed-figures, listed-marks}
 use Rattle.topk.specs.declared.entries.Entry.{Entry}
-use Rattle.topk.specs.List.{listCall, listConditions, Listed, wanted}
-use Rattle.listing.specs.Records.{entriesCall, Recorded}
-use Rattle.topk.specs.Right.{ranking, Right, worksOut}
+use Rattle.topk.specs.List.{listConditions, wanted}
+use Rattle.topk.specs.Right.{ranking, Right}
 use Rattle.topk.specs.Steps.{Progress}
 
 -- the ranking depends on the scores below n alone
@@ -46,31 +47,34 @@ list-accepted n g k scratch e =
     let d = eqb-false k 0 (t .0) in
     (omega arith, ltb-false n k (t .1))
 
--- what a call does that is a list of k entries
-pub record Runs (s : State) (k : ℕ) (scratch : List ℕ) (call : Call) (recomputed : ℕ) (holds : List Entry → Type 0) : Type 0 where
-  pub refused : (refusalOf s scratch k ≡ 0 → ⊥) → (answer s call ≡ refusalOf s scratch k) × (after s call ≡ s)
-  pub taken : refusalOf s scratch k ≡ 0 → (answer s call ≡ 0) × (after s call ≡ ranOf s k) × (recomputed ≡ runOf s k .recomputed) × holds (runOf s k .kept)
+-- what a list does: it turns back and leaves the state, or runs
+pub record Runs (s : State) (entries : Entries) (scratch : List ℕ) : Type 0 where
+  pub refused : (refusalOf s scratch (room entries) ≡ 0 → ⊥)
+      → (answer s (list entries scratch) ≡ refusalOf s scratch (room entries)) × (after s (list entries scratch) ≡ s)
+  pub taken : refusalOf s scratch (room entries) ≡ 0
+      → (answer s (list entries scratch) ≡ 0) × (after s (list entries scratch) ≡ ranOf s (room entries))
+      × (effect s (list entries scratch) .recomputed ≡ runOf s (room entries) .recomputed)
+      × (effect s (list entries scratch) .entries ≡ holding (runOf s (room entries) .kept) entries)
 
-pub list-runs : (s : State) (entries scratch : List ℕ) → Runs s (wanted entries) scratch (list entries scratch) (listCall s entries scratch .recomputed) (InRow s entries scratch)
-unfolding after answer
-list-runs s entries scratch = record {
-  refused = λ d. let e = call-refused s scratch entries (wanted entries) refl d in (ap (λ (l : Listed). l .refusal) e, ap (λ (l : Listed). l .after) e);
+pub list-runs : (s : State) (entries : Entries) (scratch : List ℕ) → Runs s entries scratch
+unfolding effect
+list-runs s (inRow numbers) scratch = record {
+  refused = λ d. let e = call-refused s scratch numbers (wanted numbers) refl d in (ap (λ l. ofList l .answer) e, ap (λ l. ofList l .after) e);
   taken = λ z.
-      let e = call-taken s scratch entries (wanted entries) refl z in
-      (ap (λ (l : Listed). l .refusal) e, ap (λ (l : Listed). l .after) e, ap (λ (l : Listed). l .recomputed) e, ap (λ (l : Listed). l .entries) e);
+      let e = call-taken s scratch numbers (wanted numbers) refl z in
+      (ap (λ l. ofList l .answer) e, ap (λ l. ofList l .after) e, ap (λ l. ofList l .recomputed) e, ap (λ l. ofList l .entries) e);
+}
+list-runs s (asRecords records) scratch = record {
+  refused = λ d. let e = entries-refused s scratch records d in (ap (λ l. ofRecords l .answer) e, ap (λ l. ofRecords l .after) e);
+  taken = λ z.
+      let e = entries-taken s scratch records z in
+      (ap (λ l. ofRecords l .answer) e, ap (λ l. ofRecords l .after) e, ap (λ l. ofRecords l .recomputed) e, ap (λ l. ofRecords l .entries) e);
 }
 
-pub entries-runs : (s : State) (entries : List Entry) (scratch : List ℕ)
-    → Runs s (length entries) scratch (listEntries entries scratch) (entriesCall s entries scratch .recomputed) (AsRecords s entries scratch)
-unfolding after answer
-entries-runs s entries scratch = record {
-  refused = λ d. let e = entries-refused s scratch entries d in (ap (λ (l : Recorded). l .refusal) e, ap (λ (l : Recorded). l .after) e);
-  taken = λ z.
-      let e = entries-taken s scratch entries z in
-      (ap (λ (l : Recorded). l .refusal) e, ap (λ (l : Recorded). l .after) e, ap (λ (l : Recorded). l .recomputed) e, ap (λ (l : Recorded). l .entries) e);
-}
+module _ (s : State) (g : Graph) (h : Sound (size s) g s) (entries : Entries) (scratch : List ℕ) where
+  abbrev k : ℕ
+  k = room entries
 
-module _ (s : State) (g : Graph) (k : ℕ) (scratch : List ℕ) (h : Sound (size s) g s) where
   abbrev run : Progress
   run = runOf s k
 
@@ -89,11 +93,11 @@ module _ (s : State) (g : Graph) (k : ℕ) (scratch : List ℕ) (h : Sound (size
         let m = list-accepted (size s) g k scratch z in
         listed-right (score (graph s) (size s)) k (s .figures) (s .marks) (m .0) (m .1) (omega (arith, h .shows .fits .marksFit)) (h .honest)
 
-    kept-best : run .kept ≡ best s g k
+    kept-best : run .kept ≡ best (size s) g k
     kept-best = right .kept ∙ ap (take k) (ranking-ext (score (graph s) (size s)) (score g (size s)) (size s) (λ p l. sound-score h p l))
 
     abbrev chosen : ℕ → Bool
-    chosen p = worksOut (s .figures) (s .marks) (best s g k) p
+    chosen p = out s (best (size s) g k) p
 
     figure-is : (p : ℕ) → p < size s → getD (run .figures) p 0 ≡ cond (chosen p) (score g (size s) p) (figure s p)
     figure-is p l = rw (kept-best, sound-score h p l) at (right .figuresAre p l)
@@ -129,26 +133,41 @@ module _ (s : State) (g : Graph) (k : ℕ) (scratch : List ℕ) (h : Sound (size
           | inr w ↦ rw (figure-is p l, w) (h .honest .above p l)
         ]
 
-  module _ {call : Call} {recomputed : ℕ} {holds : List Entry → Type 0} (r : Runs s k scratch call recomputed holds) where
-    pub runs-answer : answer s call ≡ asked
-    runs-answer = elim (ℕ-discrete asked 0) [
-      | yes z ↦ r .taken (same ∙ z) .0 ∙ sym z
-      | no d ↦ r .refused (λ e. d (sym same ∙ e)) .0 ∙ same
-    ]
+  abbrev runs : Runs s entries scratch
+  runs = list-runs s entries scratch
 
-    pub runs-sound : Sound (size s) (cond (eqb asked 0) g g) (after s call)
-    runs-sound = elim (ℕ-discrete asked 0) [
-      | yes z ↦ rw (eq-eqb asked 0 z, r .taken (same ∙ z) .1) (list-sound z)
-      | no d ↦ rw (ne-eqb asked 0 d, r .refused (λ e. d (sym same ∙ e)) .1) h
-    ]
+  pub list-answers : answer s (list entries scratch) ≡ asked
+  list-answers = elim (ℕ-discrete asked 0) [
+    | yes z ↦ runs .taken (same ∙ z) .0 ∙ sym z
+    | no d ↦ runs .refused (λ e. d (sym same ∙ e)) .0 ∙ same
+  ]
 
-    pub runs-lists : answer s call ≡ 0 → Lists s g call k recomputed holds
-    runs-lists e =
-        let z : asked ≡ 0 = sym runs-answer ∙ e in
-        let t = r .taken (same ∙ z) in
-        record {
-          firstK = subst holds (kept-best z) (t .3);
-          worked = t .2 ∙ right z .recomputed ∙ rw (kept-best z);
-          settles = λ p l w. rw (t .1) (mark-is z p l ∙ rw w (and-comm (isStale s p) false), figure-is z p l ∙ rw w);
-          others = λ p l w. rw (t .1) (mark-is z p l ∙ rw w (and-comm (isStale s p) true), figure-is z p l ∙ rw w);
-        }
+  pub list-stays : Sound (size s) g (after s (list entries scratch))
+  list-stays = elim (ℕ-discrete asked 0) [
+    | yes z ↦ rw (runs .taken (same ∙ z) .1) (list-sound z)
+    | no d ↦ rw (runs .refused (λ e. d (sym same ∙ e)) .1) h
+  ]
+
+  -- an accepted list
+  module _ (e : answer s (list entries scratch) ≡ 0) where
+    zero-asked : asked ≡ 0
+    zero-asked = sym list-answers ∙ e
+
+    abbrev done : State
+    done = after s (list entries scratch)
+
+    ran : done ≡ ranOf s k
+    ran = runs .taken (same ∙ zero-asked) .1
+
+    pub list-first : effect s (list entries scratch) .entries ≡ holding (best (size s) g k) entries
+    list-first = runs .taken (same ∙ zero-asked) .3 ∙ ap (λ xs. holding xs entries) (kept-best zero-asked)
+
+    pub list-worked : effect s (list entries scratch) .recomputed ≡ countTo (out s (best (size s) g k)) (size s)
+    list-worked = runs .taken (same ∙ zero-asked) .2 ∙ right zero-asked .recomputed ∙ rw (kept-best zero-asked)
+
+    pub list-settles : (p : ℕ) → p < size s → out s (best (size s) g k) p ≡ true
+        → (isStale done p ≡ false) × (figure done p ≡ score g (size s) p)
+    list-settles p l w = rw ran (mark-is zero-asked p l ∙ rw w (and-comm (isStale s p) false), figure-is zero-asked p l ∙ rw w)
+
+    pub list-others : (p : ℕ) → p < size s → out s (best (size s) g k) p ≡ false → Kept s done p
+    list-others p l w = rw ran (mark-is zero-asked p l ∙ rw w (and-comm (isStale s p) true), figure-is zero-asked p l ∙ rw w)

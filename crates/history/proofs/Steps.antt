@@ -1,27 +1,28 @@
 -- Each call of a history keeps the invariant, and turns back where the model does. Assumes nothing.
-use mathlib.Core.Bool.{cond, false, true}
+use mathlib.Core.Bool.{Bool, false, true}
 use mathlib.Core.List.{_++_, [], append-nil, List}
 use mathlib.Core.Logic.{_≢_}
 use mathlib.Core.Path.{ap, refl, sym, _∙_, _≡_}
 use Prim.Native.Nat.{_<_, ℕ}
 use native.Mathlib.Decide.{ℕ-discrete}
-use borrow.Author.Tests.{eq-eqb, ne-eqb}
+use native.Mathlib.Omega.{arith}
+use borrow.Author.Tests.{eq-eqb, lt-ltb, ne-eqb}
 use lib.Dec.{eqb}
 use lib.ListN.{length}
 use Rattle.ego.proofs.Agreement.{Agree, agree-sym, agree-trans}
 use Rattle.ego.proofs.WithPair.{pair-agree}
 use Rattle.ego.specs.Change.{withPair}
 use Rattle.ego.specs.Graph.{Graph}
-use Rattle.history.proofs.ListStep.{entries-runs, list-runs, runs-answer, runs-lists, runs-sound}
-use Rattle.history.specs.History.{after, answer, Listing, Untouched}
-use Rattle.history.specs.Model.{add, clear, conditions, list, listEntries, load, model, modelRefusal, noPairs, reconcile, remove, wouldHold}
+use Rattle.history.proofs.ListStep.{list-answers, list-stays}
+use Rattle.history.specs.History.{after, answer, effect, Kept, ofState}
+use Rattle.history.specs.Model.{add, below, Call, clear, conditions, Entries, list, load, model, modelRefusal, ownConditions, reconcile, remove, wouldHold}
 use Rattle.merge.proofs.MergeLaws.{merged-is, reconcile-agree, reconciled-sound}
 use Rattle.merge.specs.Reconcile.{merged, reconcileCall, reconcileConditions, reconciled}
 use Rattle.packed.specs.Edges.{edge, withEdge}
 use Rattle.calls.proofs.AcceptLaws.{lengths-fit, lengths-pass, load-accepted, outcome-accepted, outcome-refusal, outcome-refused}
-use Rattle.edits.proofs.NamedLaws.{add-accepted, remove-accepted}
+use Rattle.edits.proofs.NamedLaws.{add-accepted, Named, remove-accepted}
 use Rattle.edits.proofs.EditLaws.{edit-pair, edited-kept, touched-agree, untouched-end}
-use Rattle.state.proofs.RefusalLaws.{Fitted, refusal-none, sized-room}
+use Rattle.state.proofs.RefusalLaws.{Fitted, passed-count, refusal-none, sized-room}
 use Rattle.edits.proofs.SameRefusal.{add-agree, remove-agree}
 use Rattle.edits.proofs.Sound.{added-sound, cleared-sound, loaded-sound, marks-room, removed-sound, Sound, sound-agree}
 use Rattle.calls.specs.Clear.{clearCall, cleared}
@@ -30,66 +31,104 @@ use Rattle.state.specs.Outcome.{lengths, outcome}
 use Rattle.state.specs.Refusal.{Condition, ends, refusal, snapshotEdges, touched}
 use Rattle.calls.specs.Snapshot.{loadCall, loaded}
 use Rattle.state.specs.State.{graph, size, State}
-use Rattle.topk.specs.declared.entries.Entry.{Entry}
-use Rattle.topk.specs.List.{wanted}
 
 abbrev Fits : State → Type 0
 Fits s = Fitted (size s) (length (s .edges)) (length (s .marks))
 
--- ---- a call that leaves an outcome; r is the model's refusal, g′ the pairs that the model would hold
+-- ---- the model's pairs are of nodes below n
 
-module _ (s : State) (fits : Fits s) (cs : List Condition) (t : State) (r : ℕ) (same : refusal cs ≡ r) where
-  pub outcome-answer : outcome (lengths s ++ cs) s t .refusal ≡ r
-  outcome-answer = outcome-refusal (lengths s ++ cs) s t ∙ lengths-pass s cs fits ∙ same
+below-agree : (n : ℕ) (g : Graph) → Agree n g (below n g)
+unfolding below
+below-agree n g a b ha hb = rw (lt-ltb a n ha, lt-ltb b n hb)
 
-  pub outcome-taken : r ≡ 0 → outcome (lengths s ++ cs) s t .after ≡ t
-  outcome-taken z = outcome-accepted (lengths s ++ cs) s t (lengths-pass s cs fits ∙ same ∙ z)
+-- where the model's lengths fit, condition 1 lets every call pass
+asked-own : (s : State) (g : Graph) (call : Call) → Fits s → modelRefusal (size s) g call ≡ refusal (ownConditions (size s) g call)
+unfolding modelRefusal conditions
+asked-own s g call f = passed-count (ownConditions (size s) g call) (size s) (λ e. omega (arith, f .sizes .some)) (f .sizes .few)
 
-  pub outcome-kept : (r ≡ 0 → ⊥) → outcome (lengths s ++ cs) s t .after ≡ s
-  outcome-kept d = outcome-refused (lengths s ++ cs) s t (λ z. d (sym same ∙ sym (lengths-pass s cs fits) ∙ z))
+-- ---- a call that leaves an outcome: `t` where nothing turns it back, by conditions that decide as the model's own do
 
-  pub outcome-sound : (g g′ : Graph) → (r ≡ 0 → Sound (size s) g′ t) → ((r ≡ 0 → ⊥) → Sound (size s) g s)
-      → Sound (size s) (cond (eqb r 0) g′ g) (outcome (lengths s ++ cs) s t .after)
-  outcome-sound g g′ new old = elim (ℕ-discrete r 0) [
-    | yes z ↦ rw (eq-eqb r 0 z, outcome-taken z) (new z)
-    | no d ↦ rw (ne-eqb r 0 d, outcome-kept d) (old d)
+module _ (s : State) (fits : Fits s) (g : Graph) (call : Call) (cs : List Condition) (t : State)
+    (is : effect s call ≡ ofState (outcome (lengths s ++ cs) s t)) (same : refusal cs ≡ refusal (ownConditions (size s) g call)) where
+  abbrev asked : ℕ
+  asked = modelRefusal (size s) g call
+
+  tested : refusal (lengths s ++ cs) ≡ asked
+  tested = lengths-pass s cs fits ∙ same ∙ sym (asked-own s g call fits)
+
+  pub call-answer : answer s call ≡ asked
+  call-answer = ap (λ e. e .answer) is ∙ outcome-refusal (lengths s ++ cs) s t ∙ tested
+
+  call-taken : asked ≡ 0 → after s call ≡ t
+  call-taken z = ap (λ e. e .after) is ∙ outcome-accepted (lengths s ++ cs) s t (tested ∙ z)
+
+  call-refused : (asked ≡ 0 → ⊥) → after s call ≡ s
+  call-refused d = ap (λ e. e .after) is ∙ outcome-refused (lengths s ++ cs) s t (λ z. d (sym tested ∙ z))
+
+  -- the state is left, or is t
+  pub call-leaves : (P : State → Type 0) → (refusal (ownConditions (size s) g call) ≡ 0 → P t) → ((asked ≡ 0 → ⊥) → P s) → P (after s call)
+  call-leaves P new old = elim (ℕ-discrete asked 0) [
+    | yes z ↦ rw (call-taken z) (new (sym (asked-own s g call fits) ∙ z))
+    | no d ↦ rw (call-refused d) (old d)
+  ]
+
+  pub call-sound : (refusal (ownConditions (size s) g call) ≡ 0 → Sound (size s) (wouldHold g call) t) → ((asked ≡ 0 → ⊥) → Sound (size s) g s)
+      → Sound (size s) (model (size s) g call) (after s call)
+  unfolding model
+  call-sound new old = elim (ℕ-discrete asked 0) [
+    | yes z ↦ rw (eq-eqb asked 0 z, call-taken z) (sound-agree (below-agree (size s) (wouldHold g call)) (new (sym (asked-own s g call fits) ∙ z)))
+    | no d ↦ rw (ne-eqb asked 0 d, call-refused d) (old d)
   ]
 
 -- ---- clear and load, on any state whose lengths fit
 
 -- clear has no conditions but the lengths
-clear-is : (s : State) → clearCall s ≡ outcome (lengths s ++ []) s (cleared (size s))
-unfolding clearCall
+clear-is : (s : State) → effect s clear ≡ ofState (outcome (lengths s ++ []) s (cleared (size s)))
+unfolding effect clearCall
 clear-is s = rw (append-nil (lengths s))
 
+load-is : (s : State) (snapshot : List ℕ) (g : Graph)
+    → effect s (load snapshot) ≡ ofState (outcome (lengths s ++ ownConditions (size s) g (load snapshot)) s (loaded (size s) (snapshotEdges snapshot)))
+unfolding effect loadCall ownConditions
+load-is s snapshot g = refl
+
 -- where one of them is accepted, the lengths fit
+outcome-fits : (s : State) (call : Call) (cs : List Condition) (t : State) → effect s call ≡ ofState (outcome (lengths s ++ cs) s t)
+    → answer s call ≡ 0 → Fits s
+outcome-fits s call cs t is z = lengths-fit s cs (sym (outcome-refusal (lengths s ++ cs) s t) ∙ sym (ap (λ e. e .answer) is) ∙ z)
+
 pub clear-fits : (s : State) → answer s clear ≡ 0 → Fits s
-unfolding answer
-clear-fits s z = lengths-fit s [] (sym (ap (λ o. o .refusal) (clear-is s) ∙ outcome-refusal (lengths s ++ []) s (cleared (size s))) ∙ z)
+clear-fits s = outcome-fits s clear [] _ (clear-is s)
 
 pub load-fits : (s : State) (snapshot : List ℕ) → answer s (load snapshot) ≡ 0 → Fits s
-unfolding answer loadCall
-load-fits s snapshot z = lengths-fit s _ (sym (outcome-refusal _ s (loaded (size s) (snapshotEdges snapshot))) ∙ z)
+load-fits s snapshot = outcome-fits s (load snapshot) _ _ (load-is s snapshot (graph s))
 
 module _ (s : State) (g : Graph) (fits : Fits s) where
-  pub clear-answer : answer s clear ≡ modelRefusal (size s) g clear
-  unfolding answer modelRefusal conditions
-  clear-answer = rw (answer, clear-is s) (outcome-answer s fits [] (cleared (size s)) (refusal []) refl)
+  abbrev n : ℕ
+  n = size s
 
-  pub clear-sound : Sound (size s) (model (size s) g clear) (after s clear)
-  unfolding after model modelRefusal conditions wouldHold
-  clear-sound = rw (after, clear-is s) (outcome-sound s fits [] (cleared (size s)) (refusal []) refl g noPairs
-      (λ z. cleared-sound (size s) (fits .sizes .some) (fits .sizes .few)) (λ d. absurd (d refusal-none)))
+  clear-same : refusal [] ≡ refusal (ownConditions n g clear)
+  unfolding ownConditions
+  clear-same = refl
 
-  pub load-answer : (snapshot : List ℕ) → answer s (load snapshot) ≡ modelRefusal (size s) g (load snapshot)
-  unfolding answer modelRefusal conditions loadCall
-  load-answer snapshot = outcome-answer s fits _ (loaded (size s) (snapshotEdges snapshot)) _ refl
+  pub clear-answer : answer s clear ≡ modelRefusal n g clear
+  clear-answer = call-answer s fits g clear [] (cleared n) (clear-is s) clear-same
 
-  pub load-sound : (snapshot : List ℕ) → ((modelRefusal (size s) g (load snapshot) ≡ 0 → ⊥) → Sound (size s) g s)
-      → Sound (size s) (model (size s) g (load snapshot)) (after s (load snapshot))
-  unfolding after model modelRefusal conditions wouldHold loadCall
-  load-sound snapshot old = outcome-sound s fits _ (loaded (size s) (snapshotEdges snapshot)) _ refl g (edge (snapshotEdges snapshot))
-      (λ z. loaded-sound (size s) (fits .sizes .some) (fits .sizes .few) (snapshotEdges snapshot) (load-accepted (size s) snapshot z)) old
+  pub clear-sound : Sound n (model n g clear) (after s clear)
+  unfolding wouldHold
+  clear-sound = call-sound s fits g clear [] (cleared n) (clear-is s) clear-same
+      (λ z. cleared-sound n (fits .sizes .some) (fits .sizes .few)) (λ d. absurd (d (asked-own s g clear fits ∙ sym clear-same ∙ refusal-none)))
+
+  module _ (snapshot : List ℕ) where
+    pub load-answer : answer s (load snapshot) ≡ modelRefusal n g (load snapshot)
+    load-answer = call-answer s fits g (load snapshot) _ _ (load-is s snapshot g) refl
+
+    load-took : refusal (ownConditions n g (load snapshot)) ≡ 0 → Sound n (wouldHold g (load snapshot)) (loaded n (snapshotEdges snapshot))
+    unfolding wouldHold ownConditions
+    load-took z = loaded-sound n (fits .sizes .some) (fits .sizes .few) (snapshotEdges snapshot) (load-accepted n snapshot z)
+
+    pub load-sound : ((modelRefusal n g (load snapshot) ≡ 0 → ⊥) → Sound n g s) → Sound n (model n g (load snapshot)) (after s (load snapshot))
+    load-sound = call-sound s fits g (load snapshot) _ _ (load-is s snapshot g) refl load-took
 
 -- ---- the calls on a sound state
 
@@ -101,93 +140,106 @@ module _ (s : State) (g : Graph) (h : Sound (size s) g s) where
   links = h .shows .links
 
   module _ (a b : ℕ) where
+    abbrev addTests : List Condition
+    addTests = addConditions (size s) (graph s) (edge (withEdge (s .edges) a b true)) a b
+
+    abbrev removeTests : List Condition
+    removeTests = removeConditions (size s) (graph s) a b
+
+    add-is : effect s (add a b) ≡ ofState (outcome (lengths s ++ addTests) s (added s a b))
+    unfolding effect addCall
+    add-is = refl
+
+    remove-is : effect s (remove a b) ≡ ofState (outcome (lengths s ++ removeTests) s (removed s a b))
+    unfolding effect removeCall
+    remove-is = refl
+
     pair-links : a < size s → b < size s → a ≢ b → Agree (size s) (edge (withEdge (s .edges) a b true)) (withPair g a b true)
     pair-links ha hb two = agree-trans {g = withPair (graph s) a b true}
         (λ x y hx hy. edit-pair (s .edges) (size s) a b (sized-room (fits .sizes)) ha hb two true x y) (pair-agree a b true links)
 
-    add-same : refusal (addConditions (size s) (graph s) (edge (withEdge (s .edges) a b true)) a b) ≡ refusal (addConditions (size s) g (withPair g a b true) a b)
+    add-same : refusal addTests ≡ refusal (ownConditions (size s) g (add a b))
+    unfolding ownConditions wouldHold
     add-same = add-agree (size s) (graph s) g a b links _ _ pair-links
 
-    remove-same : refusal (removeConditions (size s) (graph s) a b) ≡ refusal (removeConditions (size s) g a b)
+    remove-same : refusal removeTests ≡ refusal (ownConditions (size s) g (remove a b))
+    unfolding ownConditions
     remove-same = remove-agree (size s) (graph s) g a b links
 
     pub add-answer : answer s (add a b) ≡ modelRefusal (size s) g (add a b)
-    unfolding answer modelRefusal conditions addCall
-    add-answer = outcome-answer s fits _ (added s a b) _ add-same
-
-    pub add-sound : Sound (size s) (model (size s) g (add a b)) (after s (add a b))
-    unfolding after model modelRefusal conditions wouldHold addCall
-    add-sound = outcome-sound s fits _ (added s a b) _ add-same g (withPair g a b true)
-        (λ z. added-sound a b (add-accepted (size s) g a b (withPair g a b true) z) h) (λ d. h)
+    add-answer = call-answer s fits g (add a b) addTests (added s a b) add-is add-same
 
     pub remove-answer : answer s (remove a b) ≡ modelRefusal (size s) g (remove a b)
-    unfolding answer modelRefusal conditions removeCall
-    remove-answer = outcome-answer s fits _ (removed s a b) _ remove-same
+    remove-answer = call-answer s fits g (remove a b) removeTests (removed s a b) remove-is remove-same
+
+    add-named : refusal (ownConditions (size s) g (add a b)) ≡ 0 → Named (size s) g a b false
+    unfolding ownConditions
+    add-named = add-accepted (size s) g a b (wouldHold g (add a b))
+
+    remove-named : refusal (ownConditions (size s) g (remove a b)) ≡ 0 → Named (size s) g a b true
+    unfolding ownConditions
+    remove-named = remove-accepted (size s) g a b
+
+    add-took : refusal (ownConditions (size s) g (add a b)) ≡ 0 → Sound (size s) (wouldHold g (add a b)) (added s a b)
+    unfolding wouldHold
+    add-took z = added-sound a b (add-named z) h
+
+    remove-took : refusal (ownConditions (size s) g (remove a b)) ≡ 0 → Sound (size s) (wouldHold g (remove a b)) (removed s a b)
+    unfolding wouldHold
+    remove-took z = removed-sound a b (remove-named z) h
+
+    pub add-sound : Sound (size s) (model (size s) g (add a b)) (after s (add a b))
+    add-sound = call-sound s fits g (add a b) addTests (added s a b) add-is add-same add-took (λ d. h)
 
     pub remove-sound : Sound (size s) (model (size s) g (remove a b)) (after s (remove a b))
-    unfolding after model modelRefusal conditions wouldHold removeCall
-    remove-sound = outcome-sound s fits _ (removed s a b) _ remove-same g (withPair g a b false)
-        (λ z. removed-sound a b (remove-accepted (size s) g a b z) h) (λ d. h)
+    remove-sound = call-sound s fits g (remove a b) removeTests (removed s a b) remove-is remove-same remove-took (λ d. h)
 
     -- a node that is neither an end nor a common neighbour is as it was
-    pub add-untouched : Untouched s g (add a b) a b
-    unfolding after addCall added
-    add-untouched p l u = elim (ℕ-discrete (refusal (addConditions (size s) g (withPair g a b true) a b)) 0) [
-      | yes z ↦ let d = add-accepted (size s) g a b (withPair g a b true) z in
-          let e = touched-agree a b (d .first) (d .second) links p l ∙ u in
-          rw (after, outcome-taken s fits _ (added s a b) _ add-same z)
-          (edited-kept s a b true (ends a b) (marks-room fits) p l (untouched-end (graph s) a b p e) e)
-      | no d ↦ rw (after, outcome-kept s fits _ (added s a b) _ add-same d) (refl, refl)
-    ]
+    module _ (p : ℕ) (l : p < size s) (u : touched g a b p ≡ false) where
+      apart : {on : Bool} → Named (size s) g a b on → touched (graph s) a b p ≡ false
+      apart d = touched-agree a b (d .first) (d .second) links p l ∙ u
 
-    pub remove-untouched : Untouched s g (remove a b) a b
-    unfolding after removeCall removed
-    remove-untouched p l u = elim (ℕ-discrete (refusal (removeConditions (size s) g a b)) 0) [
-      | yes z ↦ let d = remove-accepted (size s) g a b z in
-          let e = touched-agree a b (d .first) (d .second) links p l ∙ u in
-          rw (after, outcome-taken s fits _ (removed s a b) _ remove-same z)
-          (edited-kept s a b false (touched (graph s) a b) (marks-room fits) p l e e)
-      | no d ↦ rw (after, outcome-kept s fits _ (removed s a b) _ remove-same d) (refl, refl)
-    ]
+      pub add-untouched : Kept s (after s (add a b)) p
+      unfolding added
+      add-untouched = call-leaves s fits g (add a b) addTests (added s a b) add-is add-same (λ t. Kept s t p)
+          (λ z. let e = apart (add-named z) in edited-kept s a b true (ends a b) (marks-room fits) p l (untouched-end (graph s) a b p e) e) (λ d. (refl, refl))
+
+      pub remove-untouched : Kept s (after s (remove a b)) p
+      unfolding removed
+      remove-untouched = call-leaves s fits g (remove a b) removeTests (removed s a b) remove-is remove-same (λ t. Kept s t p)
+          (λ z. let e = apart (remove-named z) in edited-kept s a b false (touched (graph s) a b) (marks-room fits) p l e e) (λ d. (refl, refl))
 
   module _ (theirs base : List ℕ) where
+    abbrev tests : List Condition
+    tests = reconcileConditions (size s) (graph s) (merged (graph s) (edge theirs) (edge base)) theirs base
+
+    reconcile-is : effect s (reconcile theirs base) ≡ ofState (outcome (lengths s ++ tests) s (reconciled s theirs base))
+    unfolding effect reconcileCall
+    reconcile-is = refl
+
     merged-links : Agree (size s) (merged (graph s) (edge theirs) (edge base)) (wouldHold g (reconcile theirs base))
     unfolding wouldHold
     merged-links a b ha hb = merged-is (graph s) (edge theirs) (edge base) a b ∙ rw (links a b ha hb)
 
-    reconcile-same : refusal (reconcileConditions (size s) (graph s) (merged (graph s) (edge theirs) (edge base)) theirs base)
-        ≡ refusal (reconcileConditions (size s) g (wouldHold g (reconcile theirs base)) theirs base)
+    reconcile-same : refusal tests ≡ refusal (ownConditions (size s) g (reconcile theirs base))
+    unfolding ownConditions
     reconcile-same = reconcile-agree (size s) (graph s) g _ _ theirs base links merged-links
 
     pub reconcile-answer : answer s (reconcile theirs base) ≡ modelRefusal (size s) g (reconcile theirs base)
-    unfolding answer modelRefusal conditions reconcileCall
-    reconcile-answer = outcome-answer s fits _ (reconciled s theirs base) _ reconcile-same
+    reconcile-answer = call-answer s fits g (reconcile theirs base) tests (reconciled s theirs base) reconcile-is reconcile-same
 
     pub reconcile-sound : Sound (size s) (model (size s) g (reconcile theirs base)) (after s (reconcile theirs base))
-    unfolding after model modelRefusal conditions reconcileCall
-    reconcile-sound = outcome-sound s fits _ (reconciled s theirs base) _ reconcile-same g (wouldHold g (reconcile theirs base))
+    reconcile-sound = call-sound s fits g (reconcile theirs base) tests (reconciled s theirs base) reconcile-is reconcile-same
         (λ z. sound-agree merged-links (reconciled-sound s theirs base (sound-agree (agree-sym links) h))) (λ d. h)
 
-  module _ (entries scratch : List ℕ) where
+  module _ (entries : Entries) (scratch : List ℕ) where
     pub list-answer : answer s (list entries scratch) ≡ modelRefusal (size s) g (list entries scratch)
-    unfolding modelRefusal conditions
-    list-answer = runs-answer s g (wanted entries) scratch h (list-runs s entries scratch)
+    unfolding ownConditions
+    list-answer = list-answers s g h entries scratch ∙ sym (asked-own s g (list entries scratch) fits)
 
-    pub list-stays : Sound (size s) (model (size s) g (list entries scratch)) (after s (list entries scratch))
-    unfolding model modelRefusal conditions wouldHold
-    list-stays = runs-sound s g (wanted entries) scratch h (list-runs s entries scratch)
-
-    pub list-right : Listing s g (list entries scratch)
-    list-right = runs-lists s g (wanted entries) scratch h (list-runs s entries scratch)
-
-  module _ (entries : List Entry) (scratch : List ℕ) where
-    pub entries-answer : answer s (listEntries entries scratch) ≡ modelRefusal (size s) g (listEntries entries scratch)
-    unfolding modelRefusal conditions
-    entries-answer = runs-answer s g (length entries) scratch h (entries-runs s entries scratch)
-
-    pub entries-stays : Sound (size s) (model (size s) g (listEntries entries scratch)) (after s (listEntries entries scratch))
-    unfolding model modelRefusal conditions wouldHold
-    entries-stays = runs-sound s g (length entries) scratch h (entries-runs s entries scratch)
-
-    pub entries-right : Listing s g (listEntries entries scratch)
-    entries-right = runs-lists s g (length entries) scratch h (entries-runs s entries scratch)
+    pub list-sound : Sound (size s) (model (size s) g (list entries scratch)) (after s (list entries scratch))
+    unfolding model wouldHold
+    list-sound = elim (ℕ-discrete (modelRefusal (size s) g (list entries scratch)) 0) [
+      | yes z ↦ rw (eq-eqb _ 0 z) (sound-agree (below-agree (size s) g) (list-stays s g h entries scratch))
+      | no d ↦ rw (ne-eqb _ 0 d) (list-stays s g h entries scratch)
+    ]

@@ -8,6 +8,7 @@ use Rattle.arith.specs.Sums.{countTo}
 use Rattle.ego.specs.Graph.{Graph}
 use Rattle.ego.specs.Score.{score}
 use Rattle.state.specs.State.{State, size, graph, figure, isStale}
+use Rattle.state.specs.Outcome.{Outcome}
 use Rattle.state.specs.Refusal.{touched}
 use Rattle.calls.specs.Clear.{clearCall}
 use Rattle.calls.specs.Snapshot.{loadCall}
@@ -15,99 +16,119 @@ use Rattle.edits.specs.Edit.{addCall, removeCall}
 use Rattle.merge.specs.Reconcile.{reconcileCall}
 use Rattle.topk.specs.Entries.{flat}
 use Rattle.topk.specs.declared.entries.Entry.{Entry}
-use Rattle.topk.specs.List.{listCall, wanted}
-use Rattle.listing.specs.Records.{entriesCall}
+use Rattle.topk.specs.List.{Listed, listCall}
+use Rattle.listing.specs.Records.{Recorded, entriesCall}
 use Rattle.topk.specs.Right.{ranking, worksOut}
-use Rattle.history.specs.Model.{Call, clear, load, add, remove, reconcile, list, listEntries, noPairs, model, modelRefusal}
+use Rattle.history.specs.Model.{Call, clear, load, add, remove, reconcile, list, Entries, inRow, asRecords, room, noPairs, model, modelRefusal}
 
--- A step is the very definition that the public function's contract equals.
-unfoldable pub after : State → Call → State
-after s clear = clearCall s .after
-after s (load snapshot) = loadCall s snapshot .after
-after s (add a b) = addCall s a b .after
-after s (remove a b) = removeCall s a b .after
-after s (reconcile theirs base) = reconcileCall s theirs base .after
-after s (list entries scratch) = listCall s entries scratch .after
-after s (listEntries entries scratch) = entriesCall s entries scratch .after
+-- What a call leaves: the refusal number that it answers, and the state; of a list also the worked count, the entries and the scratch.
+pub record Effect : Type 0 where
+  pub answer : ℕ
+  pub after : State
+  pub recomputed : ℕ
+  pub entries : Entries
+  pub scratch : List ℕ
 
-unfoldable pub answer : State → Call → ℕ
-answer s clear = clearCall s .refusal
-answer s (load snapshot) = loadCall s snapshot .refusal
-answer s (add a b) = addCall s a b .refusal
-answer s (remove a b) = removeCall s a b .refusal
-answer s (reconcile theirs base) = reconcileCall s theirs base .refusal
-answer s (list entries scratch) = listCall s entries scratch .refusal
-answer s (listEntries entries scratch) = entriesCall s entries scratch .refusal
+abbrev pub ofState : Outcome → Effect
+ofState o = record { answer = o .refusal; after = o .after; recomputed = 0; entries = inRow []; scratch = [] }
+
+abbrev pub ofList : Listed → Effect
+ofList l = record { answer = l .refusal; after = l .after; recomputed = l .recomputed; entries = inRow (l .entries); scratch = l .scratch }
+
+abbrev pub ofRecords : Recorded → Effect
+ofRecords l = record { answer = l .refusal; after = l .after; recomputed = l .recomputed; entries = asRecords (l .entries); scratch = l .scratch }
+
+-- It is what the very definition gives that the public function's contract equals.
+unfoldable pub effect : State → Call → Effect
+effect s clear = ofState (clearCall s)
+effect s (load snapshot) = ofState (loadCall s snapshot)
+effect s (add a b) = ofState (addCall s a b)
+effect s (remove a b) = ofState (removeCall s a b)
+effect s (reconcile theirs base) = ofState (reconcileCall s theirs base)
+effect s (list (inRow numbers) scratch) = ofList (listCall s numbers scratch)
+effect s (list (asRecords records) scratch) = ofRecords (entriesCall s records scratch)
+
+abbrev pub after : State → Call → State
+after s call = effect s call .after
+
+abbrev pub answer : State → Call → ℕ
+answer s call = effect s call .answer
+
+-- ---- lists and edits
 
 -- the first k of all nodes by score, lower number first at a tie
-abbrev pub best : State → Graph → ℕ → List Entry
-best s g k = take k (ranking (score g (size s)) (size s))
+abbrev pub best : ℕ → Graph → ℕ → List Entry
+best n g k = take k (ranking (score g n) n)
 
--- An accepted list of k entries; `holds` says of its entries afterwards that they are some list. g has the model's pairs, and the stored figures and which nodes are stale are read from s, as the list finds it.
-pub record Lists (s : State) (g : Graph) (call : Call) (k recomputed : ℕ) (holds : List Entry → Type 0) : Type 0 where
-  -- its entries are the first k of all nodes by those scores, lower number first at a tie, each with its score in grains;
-  pub firstK : holds (best s g k)
-  -- its worked count is the number of nodes stale beforehand whose stored figure, then number, ranks at or before the last listed score and its number;
-  pub worked : recomputed ≡ countTo (worksOut (s .figures) (s .marks) (best s g k)) (size s)
-  -- it settles those,
-  pub settles : (p : ℕ) → p < size s → worksOut (s .figures) (s .marks) (best s g k) p ≡ true
-      → (isStale (after s call) p ≡ false) × (figure (after s call) p ≡ score g (size s) p)
-  -- and alters no other node's figure or mark.
-  pub others : (p : ℕ) → p < size s → worksOut (s .figures) (s .marks) (best s g k) p ≡ false
-      → (isStale (after s call) p ≡ isStale s p) × (figure (after s call) p ≡ figure s p)
+-- node p is stale in s, and its stored figure, then number, ranks at or before the last of xs: a list that ends with xs works it out
+abbrev pub out : State → List Entry → ℕ → Bool
+out s xs p = worksOut (s .figures) (s .marks) xs p
 
--- the entries in a row, and what lies past them as it was lent
-abbrev pub InRow : State → List ℕ → List ℕ → List Entry → Type 0
-InRow s entries scratch xs = listCall s entries scratch .entries ≡ flat xs ++ drop (length (flat xs)) entries
+-- entries that hold xs: in a row, with what lies past them as it was lent; or as records, all of them
+abbrev pub holding : List Entry → Entries → Entries
+holding xs (inRow numbers) = inRow (flat xs ++ drop (length (flat xs)) numbers)
+holding xs (asRecords records) = asRecords xs
 
--- the entries as records, all of them
-abbrev pub AsRecords : State → List Entry → List ℕ → List Entry → Type 0
-AsRecords s entries scratch xs = entriesCall s entries scratch .entries ≡ xs
+-- what is said of a list alone, by the entries that it is lent
+abbrev pub OfList : Call → (Entries → Type 0) → Type 0
+OfList clear P = Unit {0}
+OfList (load snapshot) P = Unit {0}
+OfList (add a b) P = Unit {0}
+OfList (remove a b) P = Unit {0}
+OfList (reconcile theirs base) P = Unit {0}
+OfList (list entries scratch) P = P entries
 
-abbrev pub Listing : State → Graph → Call → Type 0
-Listing s g clear = Unit {0}
-Listing s g (load snapshot) = Unit {0}
-Listing s g (add a b) = Unit {0}
-Listing s g (remove a b) = Unit {0}
-Listing s g (reconcile theirs base) = Unit {0}
-Listing s g (list entries scratch) = answer s (list entries scratch) ≡ 0
-    → Lists s g (list entries scratch) (wanted entries) (listCall s entries scratch .recomputed) (InRow s entries scratch)
-Listing s g (listEntries entries scratch) = answer s (listEntries entries scratch) ≡ 0
-    → Lists s g (listEntries entries scratch) (length entries) (entriesCall s entries scratch .recomputed) (AsRecords s entries scratch)
+-- what is said of an add or a removal alone, by its two ends
+abbrev pub OfEdit : Call → (ℕ → ℕ → Type 0) → Type 0
+OfEdit clear P = Unit {0}
+OfEdit (load snapshot) P = Unit {0}
+OfEdit (add a b) P = P a b
+OfEdit (remove a b) P = P a b
+OfEdit (reconcile theirs base) P = Unit {0}
+OfEdit (list entries scratch) P = Unit {0}
 
+-- the node's figure and mark are as they were
+abbrev pub Kept : State → State → ℕ → Type 0
+Kept s t p = (isStale t p ≡ isStale s p) × (figure t p ≡ figure s p)
+
+-- ---- demand 3, sentence by sentence
+
+pub data Sentence : Type 0 where
+  links settled stale refusal firstK worked settles others edits nodes : Sentence
+
+-- What each says of one call of a history: s is the state before it, g has the model's pairs before it, and e is what it leaves.
+-- Stored figures, and which nodes are stale, are read from s, as a list finds it.
+abbrev pub Says : ℕ → State → Graph → Call → Effect → Sentence → Type 0
+-- After the call the links are exactly the model's pairs,
+Says n s g call e links = (a b : ℕ) → a < n → b < n → graph (e .after) a b ≡ model n g call a b
+-- each settled figure is exactly its node's score worked afresh from the model,
+Says n s g call e settled = (p : ℕ) → p < n → isStale (e .after) p ≡ false → figure (e .after) p ≡ score (model n g call) n p
+-- and no open figure is below that score.
+Says n s g call e stale = (p : ℕ) → p < n → isStale (e .after) p ≡ true → score (model n g call) n p ≤ figure (e .after) p
+-- Its refusal number is the model's.
+Says n s g call e refusal = e .answer ≡ modelRefusal n g call
+-- The entries of an accepted list are the first k of all nodes by those scores, lower number first at a tie, each with its score in grains;
+Says n s g call e firstK = OfList call (λ entries. e .answer ≡ 0 → e .entries ≡ holding (best n g (room entries)) entries)
+-- its worked count is the number of nodes stale beforehand whose stored figure, then number, ranks at or before the last listed score and its number;
+Says n s g call e worked = OfList call (λ entries. e .answer ≡ 0 → e .recomputed ≡ countTo (out s (best n g (room entries))) n)
+-- it settles those,
+Says n s g call e settles = OfList call (λ entries. e .answer ≡ 0 → (p : ℕ) → p < n → out s (best n g (room entries)) p ≡ true
+    → (isStale (e .after) p ≡ false) × (figure (e .after) p ≡ score g n p))
+-- and alters no other node's figure or mark.
+Says n s g call e others = OfList call (λ entries. e .answer ≡ 0 → (p : ℕ) → p < n → out s (best n g (room entries)) p ≡ false → Kept s (e .after) p)
 -- No add or removal alters the figure or mark of a node other than its two ends and their common neighbours.
-abbrev pub Untouched : State → Graph → Call → ℕ → ℕ → Type 0
-Untouched s g call a b =
-    (p : ℕ) → p < size s → touched g a b p ≡ false → (isStale (after s call) p ≡ isStale s p) × (figure (after s call) p ≡ figure s p)
+Says n s g call e edits = OfEdit call (λ a b. (p : ℕ) → p < n → touched g a b p ≡ false → Kept s (e .after) p)
+-- The number of nodes stays.
+Says n s g call e nodes = size (e .after) ≡ n
 
-abbrev pub Editing : State → Graph → Call → Type 0
-Editing s g clear = Unit {0}
-Editing s g (load snapshot) = Unit {0}
-Editing s g (add a b) = Untouched s g (add a b) a b
-Editing s g (remove a b) = Untouched s g (remove a b) a b
-Editing s g (reconcile theirs base) = Unit {0}
-Editing s g (list entries scratch) = Unit {0}
-Editing s g (listEntries entries scratch) = Unit {0}
+-- One call of a history keeps them all.
+abbrev pub Promise : ℕ → State → Graph → Call → Effect → Type 0
+Promise n s g call e = (x : Sentence) → Says n s g call e x
 
--- One call of a history: s is the state before it, and g has the model's pairs before it.
-pub record Promise (s : State) (g : Graph) (call : Call) : Type 0 where
-  -- After the call the links are exactly the model's pairs,
-  pub links : (a b : ℕ) → a < size s → b < size s → graph (after s call) a b ≡ model (size s) g call a b
-  -- each settled figure is exactly its node's score worked afresh from the model,
-  pub settled : (p : ℕ) → p < size s → isStale (after s call) p ≡ false → figure (after s call) p ≡ score (model (size s) g call) (size s) p
-  -- and no open figure is below that score.
-  pub stale : (p : ℕ) → p < size s → isStale (after s call) p ≡ true → score (model (size s) g call) (size s) p ≤ figure (after s call) p
-  -- Its refusal number is the model's.
-  pub refusal : answer s call ≡ modelRefusal (size s) g call
-  pub lists : Listing s g call
-  pub edits : Editing s g call
-  -- The number of nodes stays.
-  pub nodes : size (after s call) ≡ size s
-
--- Every call of a history, in order.
-abbrev pub Promises : State → Graph → List Call → Type 0
-Promises s g [] = Unit {0}
-Promises s g (call ∷ calls) = Promise s g call × Promises (after s call) (model (size s) g call) calls
+-- Every call of a history, in order, each on the state that the one before it leaves.
+abbrev pub Promises : ℕ → State → Graph → List Call → Type 0
+Promises n s g [] = Unit {0}
+Promises n s g (call ∷ calls) = Promise n s g call (effect s call) × Promises n (after s call) (model n g call) calls
 
 -- A history begins with a clear or a load that is accepted, on any state.
 abbrev pub starts : Call → Bool
@@ -117,8 +138,7 @@ starts (add a b) = false
 starts (remove a b) = false
 starts (reconcile theirs base) = false
 starts (list entries scratch) = false
-starts (listEntries entries scratch) = false
 
--- DEMAND 3. proofs/Theorem has its proof.
+-- DEMAND 3. The model is fed n once: the count of the figures that the first call is lent. proofs/Theorem has its proof.
 abbrev pub Demand3 : Type 0
-Demand3 = (s : State) (first : Call) (calls : List Call) → starts first ≡ true → answer s first ≡ 0 → Promises s noPairs (first ∷ calls)
+Demand3 = (s : State) (first : Call) (calls : List Call) → starts first ≡ true → answer s first ≡ 0 → Promises (size s) s noPairs (first ∷ calls)

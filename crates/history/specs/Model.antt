@@ -1,8 +1,8 @@
 -- The plain model (01's book). It is fed n and what each call brings, no answers and nothing read from the state. Assumes nothing.
-use mathlib.Core.Bool.{cond, false, true}
-use mathlib.Core.List.{[], List}
+use mathlib.Core.Bool.{_&&_, cond, false, true}
+use mathlib.Core.List.{[], List, _∷_}
 use Prim.Native.Nat.{ℕ}
-use lib.Dec.{eqb}
+use lib.Dec.{eqb, ltb}
 use lib.ListN.{length}
 use Rattle.ego.specs.Change.{withPair}
 use Rattle.ego.specs.Graph.{Graph}
@@ -10,20 +10,29 @@ use Rattle.merge.specs.Reconcile.{reconcileConditions}
 use Rattle.packed.specs.Bits.{differ}
 use Rattle.packed.specs.Edges.{edge}
 use Rattle.edits.specs.Edit.{addConditions, removeConditions}
-use Rattle.state.specs.Refusal.{Condition, refusal, snapshotEdges}
+use Rattle.state.specs.Refusal.{Condition, nodeCount, refusal, snapshotEdges}
 use Rattle.calls.specs.Snapshot.{loadConditions}
 use Rattle.topk.specs.declared.entries.Entry.{Entry}
 use Rattle.topk.specs.List.{listConditions, wanted}
 
--- What a call brings besides the state: numbers, a sheet, theirs and the original, entries and scratch. A list is lent its entries as records, or as plain numbers in a row.
+-- The entries lent to a list: plain numbers in a row, or records.
+pub data Entries : Type 0 where
+  inRow : List ℕ → Entries
+  asRecords : List Entry → Entries
+
+-- k, the number of entries
+abbrev pub room : Entries → ℕ
+room (inRow numbers) = wanted numbers
+room (asRecords records) = length records
+
+-- What a call brings besides the state: numbers, a sheet, theirs and the original, entries and scratch.
 pub data Call : Type 0 where
   clear : Call
   load : List ℕ → Call
   add : ℕ → ℕ → Call
   remove : ℕ → ℕ → Call
   reconcile : List ℕ → List ℕ → Call
-  list : List ℕ → List ℕ → Call
-  listEntries : List Entry → List ℕ → Call
+  list : Entries → List ℕ → Call
 
 -- The model holds a set of pairs, at first none.
 abbrev pub noPairs : Graph
@@ -38,21 +47,29 @@ wouldHold g (add a b) = withPair g a b true
 wouldHold g (remove a b) = withPair g a b false
 wouldHold g (reconcile theirs base) = λ a b. cond (differ (edge theirs a b) (edge base a b)) (edge theirs a b) (g a b)
 wouldHold g (list entries scratch) = g
-wouldHold g (listEntries entries scratch) = g
 
 -- The conditions of turning back, with the model's pairs as the links (for 12, the pairs it would then hold).
-unfoldable pub conditions : ℕ → Graph → Call → List Condition
-conditions n g clear = []
-conditions n g (load snapshot) = loadConditions n snapshot
-conditions n g (add a b) = addConditions n g (withPair g a b true) a b
-conditions n g (remove a b) = removeConditions n g a b
-conditions n g (reconcile theirs base) = reconcileConditions n g (wouldHold g (reconcile theirs base)) theirs base
-conditions n g (list entries scratch) = listConditions n g (wanted entries) scratch
-conditions n g (listEntries entries scratch) = listConditions n g (length entries) scratch
+unfoldable pub ownConditions : ℕ → Graph → Call → List Condition
+ownConditions n g clear = []
+ownConditions n g (load snapshot) = loadConditions n snapshot
+ownConditions n g (add a b) = addConditions n g (wouldHold g (add a b)) a b
+ownConditions n g (remove a b) = removeConditions n g a b
+ownConditions n g (reconcile theirs base) = reconcileConditions n g (wouldHold g (reconcile theirs base)) theirs base
+ownConditions n g (list entries scratch) = listConditions n g (room entries) scratch
 
--- The refusal number is the first such condition's, otherwise 0; where one applies the model stays.
+-- 1 stands before them all. 2 stands among them for the buffers that a call brings; for the state's own it cannot apply, and the model does not see
+-- them: the first call was accepted, so the state's lengths are those that n requires, and no call changes the length of what it is lent.
+unfoldable pub conditions : ℕ → Graph → Call → List Condition
+conditions n g call = nodeCount n ∷ ownConditions n g call
+
+-- The refusal number is the first such condition's, otherwise 0.
 unfoldable pub modelRefusal : ℕ → Graph → Call → ℕ
 modelRefusal n g call = refusal (conditions n g call)
 
+-- the pairs of two nodes below n; no other is a pair of the board
+unfoldable pub below : ℕ → Graph → Graph
+below n g a b = ltb a n && (ltb b n && g a b)
+
+-- Where a condition applies the model stays.
 unfoldable pub model : ℕ → Graph → Call → Graph
-model n g call = cond (eqb (modelRefusal n g call) 0) (wouldHold g call) g
+model n g call = cond (eqb (modelRefusal n g call) 0) (below n (wouldHold g call)) g
