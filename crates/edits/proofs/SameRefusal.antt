@@ -9,7 +9,7 @@ use Rattle.ego.specs.Graph.{Graph}
 use Rattle.calls.proofs.AcceptLaws.{same-rest}
 use Rattle.edits.proofs.EditLaws.{touched-agree}
 use Rattle.edits.specs.Edit.{addConditions, removeConditions}
-pub use Rattle.state.proofs.CrowdedLaws.{after-agree, before-agree}
+use Rattle.state.proofs.CrowdedLaws.{after-agree, before-agree}
 use Rattle.state.specs.Refusal.{Condition, edgeAbsent, edgePresent, ends, nodeNumber, refusal, sameNodes, touched}
 
 module _ (n : ℕ) (g g′ : Graph) (a b : ℕ) (same : Agree n g g′) where

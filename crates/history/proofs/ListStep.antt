@@ -19,7 +19,7 @@ use Rattle.ego.specs.Score.{score}
 use Rattle.history.specs.History.{after, answer, best, effect, holding, Kept, ofList, ofRecords, out}
 use Rattle.history.specs.Model.{asRecords, Entries, inRow, list, room}
 use Rattle.calls.proofs.AcceptLaws.{lengths-pass, passes}
-use Rattle.edits.proofs.SameRefusal.{before-agree}
+use Rattle.state.proofs.CrowdedLaws.{before-agree}
 use Rattle.edits.proofs.Sound.{Sound, sound-score}
 use Rattle.state.specs.Marks.{stale}
 use Rattle.state.specs.Refusal.{everyone, listLength, refusal, scratchLength}
