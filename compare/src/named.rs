@@ -1,141 +1,143 @@
-//! The description's cases that the proofs leave to a run, each by its name.
+//! The description's cases that the proofs leave to a run, each by its name and on every call that has the thing tested.
 
-use crate::calls::{Calls, Entry};
-use crate::plain::packing::{edge_bytes, mark_bytes};
+use crate::calls::Calls;
+use crate::memory::{Call, Kind, Memory, KINDS};
+use crate::plain::packing::{edge_bytes, mark_bytes, pair_index, put_bit};
 
-/// A state of n nodes that owns its buffers, cleared.
+const LISTS: [Kind; 2] = [Kind::List, Kind::ListEntries];
+
+/// A board of n posts, with all that a call can be lent: of the lengths that n requires, one entry, and no links anywhere.
 struct Board<'a> {
     version: &'a dyn Calls,
-    n: u64,
-    edges: Vec<u8>,
-    figures: Vec<u8>,
-    marks: Vec<u8>,
+    n: usize,
+    lent: Memory,
 }
 
 impl<'a> Board<'a> {
     fn new(version: &'a dyn Calls, n: usize) -> Board<'a> {
-        let mut board = Board::unclear(version, n);
-        board.clear();
-        board
-    }
-
-    fn unclear(version: &'a dyn Calls, n: usize) -> Board<'a> {
-        Board {
-            version,
-            n: n as u64,
-            edges: vec![0; edge_bytes(n)],
+        let links = vec![0; edge_bytes(n)];
+        let lent = Memory {
             figures: vec![0; 8 * n],
             marks: vec![0; mark_bytes(n)],
-        }
+            snapshot: sheet(n, &links),
+            theirs: links.clone(),
+            base: links.clone(),
+            edges: links,
+            entries: vec![0; 2],
+            scratch: vec![0; n],
+        };
+        Board { version, n, lent }
     }
 
-    fn clear(&mut self) -> u64 {
-        self.version.clear(self.n, &mut self.edges, &mut self.figures, &mut self.marks)
+    /// The refusal of a call, 0 for acceptance.
+    fn call(&mut self, kind: Kind, a: usize, b: usize) -> u64 {
+        let call = Call { kind, n: self.n as u64, a: a as u64, b: b as u64 };
+        kind.refusal(self.lent.run(self.version, call))
     }
 
-    fn add(&mut self, a: u64, b: u64) -> u64 {
-        self.version.add(self.n, &mut self.edges, &mut self.figures, &mut self.marks, a, b)
+    /// The refusal of a load of a sheet with these links.
+    fn load(&mut self, links: &[u8]) -> u64 {
+        self.lent.snapshot = sheet(self.n, links);
+        self.call(Kind::Load, 0, 0)
     }
 
-    fn remove(&mut self, a: u64, b: u64) -> u64 {
-        self.version.remove(self.n, &mut self.edges, &mut self.figures, &mut self.marks, a, b)
+    /// The refusal of a reconcile in which theirs has these links and the original has none.
+    fn reconcile(&mut self, theirs: Vec<u8>) -> u64 {
+        self.lent.theirs = theirs;
+        self.call(Kind::Reconcile, 0, 0)
     }
 
-    /// The refusal of a list of k.
-    fn list(&mut self, k: usize) -> u64 {
-        let n = self.n as usize;
-        let answer =
-            self.version.list(&mut self.edges, &mut vec![0; n], &mut self.marks, &mut vec![0; 2 * k], &mut vec![0; n]);
-        self.refusal(answer)
-    }
-
-    /// The same with the entries as records.
-    fn list_entries(&mut self, k: usize) -> u64 {
-        let n = self.n as usize;
-        let answer = self.version.list_entries(
-            &mut self.edges,
-            &mut vec![0; n],
-            &mut self.marks,
-            &mut vec![Entry::default(); k],
-            &mut vec![0; n],
-        );
-        self.refusal(answer)
-    }
-
-    /// The refusal in the answer of a list.
-    fn refusal(&self, answer: u64) -> u64 {
-        if answer > self.n {
-            answer.wrapping_neg()
-        } else {
-            0
-        }
-    }
-
-    /// The refusal of a load of the snapshot of this board itself.
-    fn load_own(&mut self) -> u64 {
-        let mut snapshot = vec![self.n.wrapping_sub(1) as u8];
-        snapshot.extend(&self.edges);
-        self.version.load(&mut self.edges, &mut vec![0; self.n as usize], &mut self.marks, &snapshot)
+    /// The refusals of both lists, of k entries.
+    fn lists(&mut self, k: usize) -> Vec<u64> {
+        self.lent.entries = vec![0; 2 * k];
+        LISTS.map(|kind| self.call(kind, 0, 0)).to_vec()
     }
 }
 
-/// A case's name, and what it finds on a version: the answers, and those that are due.
-type Case = (&'static str, fn(&dyn Calls) -> (Vec<u64>, Vec<u64>));
+/// The sheet of a board.
+fn sheet(n: usize, links: &[u8]) -> Vec<u8> {
+    [&[n.wrapping_sub(1) as u8], links].concat()
+}
 
-const CASES: [Case; 11] = [
-    ("32 links are accepted", |version| {
+/// Links of post 0 to each of the others, on a board of 34 posts.
+fn star(others: impl Iterator<Item = usize>) -> Vec<u8> {
+    let mut links = vec![0; edge_bytes(34)];
+    others.for_each(|q| put_bit(&mut links, pair_index(0, q), true));
+    links
+}
+
+/// A board of 34 posts whose post 0 has its 32 links.
+fn full(version: &dyn Calls) -> Board<'_> {
+    let mut board = Board::new(version, 34);
+    board.lent.edges = star(1..=32);
+    board
+}
+
+/// The refusals of every call on a board of n posts. The link that is added is there to be removed.
+fn every_call(version: &dyn Calls, n: usize) -> Vec<u64> {
+    let mut board = Board::new(version, n);
+    KINDS.map(|kind| board.call(kind, 0, 255)).to_vec()
+}
+
+/// The refusals of both lists on boards of several sizes, of as many entries as `k` gives for n posts.
+fn lists_of(version: &dyn Calls, k: fn(usize) -> usize) -> Vec<u64> {
+    [1, 4, 256].iter().flat_map(|&n| Board::new(version, n).lists(k(n))).collect()
+}
+
+/// A case's name, the number that is due, and what the calls answer on a version.
+type Case = (&'static str, u64, fn(&dyn Calls) -> Vec<u64>);
+
+const CASES: [Case; 17] = [
+    ("32 links are accepted by add", 0, |version| {
         let mut board = Board::new(version, 34);
-        ((1..=32).map(|b| board.add(0, b)).collect(), vec![0; 32])
+        (1..=32).map(|q| board.call(Kind::Add, 0, q)).collect()
     }),
-    ("the 33rd link is refusal 12", |version| {
-        let mut board = Board::new(version, 34);
-        (1..=32).for_each(|b| {
-            board.add(0, b);
-        });
-        (vec![board.add(0, 33), board.add(33, 0)], vec![12, 12])
+    ("the 33rd link is refusal 12 of add", 12, |version| {
+        let mut board = full(version);
+        vec![board.call(Kind::Add, 0, 33), board.call(Kind::Add, 33, 0)]
     }),
-    ("n = 256 is accepted", |version| {
-        let mut board = Board::unclear(version, 256);
-        (vec![board.clear(), board.add(255, 0), board.list(1), board.load_own()], vec![0; 4])
+    ("32 links are accepted by load", 0, |version| vec![Board::new(version, 34).load(&star(1..=32))]),
+    ("the 33rd link is refusal 12 of load", 12, |version| vec![Board::new(version, 34).load(&star(1..=33))]),
+    ("32 links are accepted by reconcile", 0, |version| {
+        vec![Board::new(version, 34).reconcile(star(1..=32)), full(version).reconcile(star(1..=1))]
     }),
-    ("257 figures are refusal 1", |version| {
-        let mut board = Board::unclear(version, 257);
-        (vec![board.clear(), board.add(0, 1), board.remove(0, 1), board.list(1), board.load_own()], vec![1; 5])
+    ("the 33rd link is refusal 12 of reconcile", 12, |version| {
+        vec![Board::new(version, 34).reconcile(star(1..=33)), full(version).reconcile(star(33..=33))]
     }),
-    ("k = n is accepted", |version| {
-        ([1, 4, 256].iter().map(|&n| Board::new(version, n).list(n)).collect(), vec![0; 3])
-    }),
-    ("k = n + 1 is refusal 8", |version| {
-        ([1, 4, 256].iter().map(|&n| Board::new(version, n).list(n + 1)).collect(), vec![8; 3])
-    }),
-    ("k = n entries as records are accepted", |version| {
-        ([1, 4, 256].iter().map(|&n| Board::new(version, n).list_entries(n)).collect(), vec![0; 3])
-    }),
-    ("none, n + 1 and 1,000 entries as records are refusal 8", |version| {
-        let mut board = Board::new(version, 256);
-        ([0, 257, 258, 1_000].iter().map(|&k| board.list_entries(k)).collect(), vec![8; 4])
-    }),
-    ("0 and 0 is refusal 5", |version| {
+    ("n = 256 is accepted by every call", 0, |version| every_call(version, 256)),
+    ("257 figures are refusal 1 of every call", 1, |version| every_call(version, 257)),
+    ("k = n is accepted by both lists", 0, |version| lists_of(version, |n| n)),
+    ("k = n + 1 is refusal 8 of both lists", 8, |version| lists_of(version, |n| n + 1)),
+    ("k = 0 is refusal 8 of both lists", 8, |version| lists_of(version, |_| 0)),
+    ("k = 1,000 is refusal 8 of both lists", 8, |version| lists_of(version, |_| 1_000)),
+    ("0 and 0 is refusal 5 of add and remove", 5, |version| {
         let mut board = Board::new(version, 4);
-        (vec![board.add(0, 0), board.remove(0, 0)], vec![5, 5])
+        vec![board.call(Kind::Add, 0, 0), board.call(Kind::Remove, 0, 0)]
     }),
-    ("a link added twice is refusal 6", |version| {
+    ("a link added twice is refusal 6", 6, |version| {
         let mut board = Board::new(version, 4);
-        (vec![board.add(0, 1), board.add(0, 1), board.add(1, 0)], vec![0, 6, 6])
+        board.call(Kind::Add, 0, 1);
+        vec![board.call(Kind::Add, 0, 1), board.call(Kind::Add, 1, 0)]
     }),
-    ("0 and n on a board of n posts is refusal 4", |version| {
+    ("0 and n on a board of n posts is refusal 4 of add", 4, |version| {
         let mut board = Board::new(version, 4);
-        let score = version.score(4, &board.edges, 4).wrapping_neg();
-        (vec![board.add(0, 4), board.add(4, 0), board.remove(0, 4), score], vec![4; 4])
+        vec![board.call(Kind::Add, 0, 4), board.call(Kind::Add, 4, 0)]
+    }),
+    ("0 and n on a board of n posts is refusal 4 of remove", 4, |version| {
+        let mut board = Board::new(version, 4);
+        vec![board.call(Kind::Remove, 0, 4), board.call(Kind::Remove, 4, 0)]
+    }),
+    ("post n of a board of n posts is refusal 4 of score", 4, |version| {
+        vec![Board::new(version, 4).call(Kind::Score, 4, 0)]
     }),
 ];
 
 /// Runs every case on a version and prints its name.
 pub fn run(version: &dyn Calls) -> Result<(), String> {
-    for (name, case) in CASES {
-        let (found, due) = case(version);
-        if found != due {
-            return Err(format!("case `{name}` on {}: answers {found:?}, due {due:?}", version.name()));
+    for (name, due, case) in CASES {
+        let found = case(version);
+        if found.iter().any(|&number| number != due) {
+            return Err(format!("case `{name}` on {}: answers {found:?}, due {due} each", version.name()));
         }
         println!("case on {}: {name}: ok", version.name());
     }
