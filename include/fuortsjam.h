@@ -6,6 +6,7 @@
  *   figures  8n bytes: a number of grains for each post, least significant byte first
  *   marks    n bits, rounded up to bytes: a bit for each post, most significant bit first
  * 72,201,776,446,800 grains make 1. The buffers of a call must not overlap, and no other thread may use them during it.
+ * A pointer whose length is 0 may be null: a board of one post has no link bytes.
  *
  * Refusal numbers, in the order in which they are tested. A call that is refused writes nothing.
  *    0  the call is accepted
