@@ -140,9 +140,9 @@ pub fn write(edges: &[u8], figures: &[u64], marks: &[u8], snapshot: &mut [u8]) -
     ensures { λ r. ⌜ written r (now (snapshot .exit)) ≡ writeCall (state (now (edges .entry)) (now (figures .entry)) (now (marks .entry))) (now (snapshot .entry)) ⌝ }
 {
     let n = figures.len();
-    let lengths = state_refusal(n, edges.len(), marks.len());
-    if lengths != 0 {
-        return lengths;
+    let size = state_refusal(n, edges.len(), marks.len());
+    if size != 0 {
+        return size;
     }
     if snapshot.len() != 1 + edge_bytes(n) {
         return LENGTH;

@@ -201,9 +201,9 @@ pub fn remove(edges: &mut [u8], figures: &mut [u64], marks: &mut [u8], a: usize,
     ensures { λ r. ⌜ left r (now (edges .exit)) (now (figures .exit)) (now (marks .exit)) ≡ removeCall (state (now (edges .entry)) (now (figures .entry)) (now (marks .entry))) a b ⌝ }
 {
     let n = figures.len();
-    let lengths = state_refusal(n, edges.len(), marks.len());
-    if lengths != 0 {
-        return lengths;
+    let size = state_refusal(n, edges.len(), marks.len());
+    if size != 0 {
+        return size;
     }
     let pair = remove_refusal(edges, n, a, b);
     if pair != 0 {
