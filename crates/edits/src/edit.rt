@@ -205,9 +205,9 @@ pub fn remove(edges: &mut [u8], figures: &mut [u64], marks: &mut [u8], a: usize,
     if size != 0 {
         return size;
     }
-    let pair = remove_refusal(edges, n, a, b);
-    if pair != 0 {
-        return pair;
+    let refusal = remove_refusal(edges, n, a, b);
+    if refusal != 0 {
+        return refusal;
     }
     let touching = touched_of(edges, n, a, b);
     let nodes = touching.nodes;
