@@ -56,7 +56,7 @@ impl<'a> Board<'a> {
 
 /// The sheet of a board.
 fn sheet(n: usize, links: &[u8]) -> Vec<u8> {
-    [&[n.wrapping_sub(1) as u8], links].concat()
+    [&[(n - 1) as u8], links].concat()
 }
 
 /// Links of post 0 to each of the others, on a board of 34 posts.
