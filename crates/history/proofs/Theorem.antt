@@ -44,9 +44,11 @@ step s g (reconcile theirs base) h =
     let i = reconcile-sound s g h theirs base in
     (i, promise s g (reconcile theirs base) i (reconcile-answer s g h theirs base) tt tt tt tt tt)
 step s g (list entries scratch) h =
-    let i = list-sound s g h entries scratch in
-    (i, promise s g (list entries scratch) i (list-answer s g h entries scratch)
-    (list-first s g h entries scratch) (list-worked s g h entries scratch) (list-settles s g h entries scratch) (list-others s g h entries scratch) tt)
+    let i = list-sound s g h entries scratch in (
+      i,
+      promise s g (list entries scratch) i (list-answer s g h entries scratch)
+          (list-first s g h entries scratch) (list-worked s g h entries scratch) (list-settles s g h entries scratch) (list-others s g h entries scratch) tt,
+    )
 
 -- the first call, which may find anything in the state
 begin : (s : State) (first : Call) → starts first ≡ true → answer s first ≡ 0 → Stands (size s) s noPairs first
