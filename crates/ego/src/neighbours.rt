@@ -53,7 +53,7 @@ fn neighbours_above(edges: &[u8], n: usize, p: usize, below: Neighbours) -> Neig
     Neighbours { nodes, count }
 }
 
-// The neighbours of p.
+// How many neighbours p has, and the first of them in order, as many as the limit; 0 in the places past them.
 pub fn neighbours_of(edges: &[u8], n: usize, p: usize) -> Neighbours
     requires { ⌜ (p < n) × Room n (now edges) ⌝ }
     ensures { λ r. ⌜ r ≡ firstNeighbours (now (edges .entry)) n p ⌝ }

@@ -53,7 +53,7 @@ fn count_row(edges: &[u8], counts: &mut [u16], b: usize)
     counts[b] = own;
 }
 
-// How many of the n nodes are linked to each of them.
+// How many of the n nodes are linked to each of them; 0 in the places past them.
 pub fn degrees_of(edges: &[u8], n: usize) -> [u16; MAX_NODES]
     requires { ⌜ Room n (now edges) ⌝ }
     ensures { λ r. ⌜ r ≡ degreesOf (now (edges .entry)) n ⌝ }
