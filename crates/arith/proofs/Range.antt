@@ -11,10 +11,8 @@ use lib.Dec.{eqb}
 use lib.ListN.{getD, length, length-append}
 use Rattle.arith.proofs.Filter.{filter-append}
 use Rattle.arith.proofs.Tests.{eqb-same, test}
-use Rattle.arith.specs.Lists.{concatMap, consIf, count, filter, range}
-use Rattle.arith.specs.Sums.{countTo, sumTo, tabulate}
 use Rattle.arith.specs.Lists.{concatMap, consIf, count, Distinct, filter, range}
-use Rattle.arith.specs.Sums.{countTo, sumTo}
+use Rattle.arith.specs.Sums.{countTo, sumTo, tabulate}
 
 abbrev pub Up : ℕ → List ℕ → Type 0
 Up k [] = Unit {0}
@@ -61,13 +59,14 @@ pub range-last : (k n : ℕ) → range k (suc n) ≡ range k n ++ (k + n) ∷ []
 range-last k zero = ap (λ i. i ∷ []) (sym (add-zero k))
 range-last k (suc n) = ap (λ l. k ∷ l) (range-last (suc k) n ∙ ap (λ i. range (suc k) n ++ i ∷ []) (suc-add k n ∙ sym (add-suc k n)))
 
+pub range-append : (k m n : ℕ) → range k m ++ range (k + m) n ≡ range k (m + n)
+range-append k zero n = rw (add-zero, zero-add)
+range-append k (suc m) n = rw (add-suc k m, ← suc-add k m, suc-add m n) (ap (λ l. k ∷ l) (range-append (suc k) m n))
+
 pub tabulate-range : (n : ℕ) → tabulate (λ i. i) n ≡ range 0 n
 unfolding tabulate
 tabulate-range zero = refl
 tabulate-range (suc n) = ap (λ l. l ++ n ∷ []) (tabulate-range n) ∙ sym (range-last 0 n ∙ ap (λ i. range 0 n ++ i ∷ []) (zero-add n))
-pub range-append : (k m n : ℕ) → range k m ++ range (k + m) n ≡ range k (m + n)
-range-append k zero n = rw (add-zero, zero-add)
-range-append k (suc m) n = rw (add-suc k m, ← suc-add k m, suc-add m n) (ap (λ l. k ∷ l) (range-append (suc k) m n))
 
 pub filter-last : (q : ℕ → Bool) (n : ℕ) → filter q (range 0 (suc n)) ≡ filter q (range 0 n) ++ consIf (q n) n []
 filter-last q n = ap (filter q) (range-last 0 n ∙ ap (λ i. range 0 n ++ i ∷ []) (zero-add n)) ∙ filter-append q (range 0 n) (n ∷ [])

@@ -21,13 +21,18 @@ use Rattle.calls.specs.Snapshot.{loadCall, loadConditions, loaded, snaps
 use Rattle.calls.specs.declared.score.Scored.{Scored}
 use Rattle.state.proofs.CrowdedLaws.{before-agree}
 use Rattle.state.proofs.Spare.{alike-lengths, alike-links, alike-nodes, alike-refl, same-agree, spare-refl}
-use Rattle.state.specs.Outcome.{edgeLengths, lengths, outcome}
+use Rattle.state.specs.Outcome.{edgeLengths, lengths, Outcome, outcome}
 use Rattle.state.specs.Refusal.{bufferLength, Condition, crowdedBefore, everyone, nodeCount, nodeNumber, refusal, snapshotEdges}
 use Rattle.state.specs.Sizes.{edgeBytes, snapshotBytes}
-use Rattle.state.specs.Spare.{Alike, AlikeOutcome, SameBits, SpareKept}
+use Rattle.state.specs.Spare.{Alike, SameBits, SpareKept}
 use Rattle.state.specs.State.{graph, size, State}
 
 -- ---- a call that leaves an outcome
+
+-- what two calls leave differs in spare bits at most
+pub record AlikeOutcome (o p : Outcome) : Type 0 where
+  pub refusal : o .refusal ≡ p .refusal
+  pub after : Alike (o .after) (p .after)
 
 pub outcome-spare : (cs : List Condition) (s t : State) → (refusal cs ≡ 0 → SpareKept s t) → SpareKept s (outcome cs s t .after)
 outcome-spare cs s t h = elim (ℕ-discrete (refusal cs) 0) [

@@ -88,6 +88,10 @@ of-edit (list entries scratch) f r = always
 -- ---- the sentences
 
 module _ (n : ℕ) (s : State) (g : Graph) (call : Call) (e : Effect) where
+  -- a list that is lent the entries works p out
+  abbrev chosen : Entries → ℕ → Bool
+  chosen entries p = out s (best n g (room entries)) p
+
   -- p's mark is `mark`, and its figure `value`
   abbrev became : Bool → ℕ → ℕ → Bool
   became mark value p = Bool·beq (isStale (e .after) p) mark && eqb (figure (e .after) p) value
@@ -101,9 +105,9 @@ module _ (n : ℕ) (s : State) (g : Graph) (call : Call) (e : Effect) where
   tested stale = each (λ p. not (Bool·beq (isStale (e .after) p) true) || leb (score (model n g call) n p) (figure (e .after) p)) n
   tested refusal = eqb (e .answer) (modelRefusal n g call)
   tested firstK = ofList call (λ entries. not (eqb (e .answer) 0) || sameEntries (e .entries) (holding (best n g (room entries)) entries))
-  tested worked = ofList call (λ entries. not (eqb (e .answer) 0) || eqb (e .recomputed) (countTo (out s (best n g (room entries))) n))
-  tested settles = ofList call (λ entries. not (eqb (e .answer) 0) || each (λ p. not (Bool·beq (out s (best n g (room entries)) p) true) || became false (score g n p) p) n)
-  tested others = ofList call (λ entries. not (eqb (e .answer) 0) || each (λ p. not (Bool·beq (out s (best n g (room entries)) p) false) || became (isStale s p) (figure s p) p) n)
+  tested worked = ofList call (λ entries. not (eqb (e .answer) 0) || eqb (e .recomputed) (countTo (chosen entries) n))
+  tested settles = ofList call (λ entries. not (eqb (e .answer) 0) || each (λ p. not (Bool·beq (chosen entries p) true) || became false (score g n p) p) n)
+  tested others = ofList call (λ entries. not (eqb (e .answer) 0) || each (λ p. not (Bool·beq (chosen entries p) false) || became (isStale s p) (figure s p) p) n)
   tested edits = ofEdit call (λ a b. each (λ p. not (Bool·beq (touched g a b p) false) || became (isStale s p) (figure s p) p) n)
   tested nodes = eqb (size (e .after)) n
 

@@ -11,7 +11,7 @@ use Rattle.ego.specs.Bound.{bound}
 use Rattle.ego.specs.Graph.{Graph}
 use Rattle.packed.specs.Edges.{edge, withEdge}
 use Rattle.calls.proofs.AcceptLaws.{lengths-rest}
-use Rattle.calls.proofs.Spare.{outcome-alike, outcome-spare, rest-alike}
+use Rattle.calls.proofs.Spare.{AlikeOutcome, outcome-alike, outcome-spare, rest-alike}
 use Rattle.edits.proofs.EditLaws.{edited-size, touched-agree}
 use Rattle.edits.proofs.NamedLaws.{add-accepted, remove-accepted}
 use Rattle.edits.proofs.SameRefusal.{add-agree, remove-agree}
@@ -19,7 +19,7 @@ use Rattle.edits.specs.Edit.{addCall, addConditions, added, edited, remo
 use Rattle.state.proofs.Spare.{alike-by, alike-links, alike-nodes, same-agree, same-stale-to, same-with-edge, spare-stale-to, spare-with-pair}
 use Rattle.state.specs.Marks.{markBits, staleTo}
 use Rattle.state.specs.Refusal.{ends, refusal, touched}
-use Rattle.state.specs.Spare.{Alike, AlikeOutcome, SameBits, SpareKept}
+use Rattle.state.specs.Spare.{Alike, SameBits, SpareKept}
 use Rattle.state.specs.State.{graph, size, State}
 
 -- ---- they keep the spare bits

@@ -58,9 +58,12 @@ demand2 = record {
 -- ---- one outcome alone
 
 module _ {g : Graph} {n p : ℕ} where
+  same-paths : {u v r r′ : ℕ} (s : Share g n p u v r) (t : Share g n p u v r′) (path : List ℕ) → List·Memᴰ path (s .paths) ↔ List·Memᴰ path (t .paths)
+  same-paths s t path = Iff·trans (s .these .all path) (Iff·symm (t .these .all path))
+
   one-share : {u v r r′ : ℕ} → Share g n p u v r → Share g n p u v r′ → r ≡ r′
   one-share {u} {v} {r} {r′} s t =
-      let same : (path : List ℕ) → List·Memᴰ path (s .paths) ↔ List·Memᴰ path (t .paths) = λ path. Iff·trans (s .these .all path) (Iff·symm (t .these .all path)) in
+      let same = same-paths s t in
       let paths = same-length (s .paths) (t .paths) (s .these .once) (t .these .once) same in
       let through = same-count (s .paths) (t .paths) (s .these .once) (t .these .once) same (inner p) in
       sym (mul-div-cancel r (s .these .some))

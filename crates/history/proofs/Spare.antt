@@ -2,7 +2,7 @@
 use mathlib.Core.Bool.{false, true, true≢false}
 use mathlib.Core.Path.{ap, refl, sym, _≡_}
 use Prim.Native.Nat.{ℕ}
-use Rattle.calls.proofs.Spare.{clear-alike, load-alike, score-alike, write-alike}
+use Rattle.calls.proofs.Spare.{AlikeOutcome, clear-alike, load-alike, score-alike, write-alike}
 use Rattle.calls.proofs.SpareZero.{clear-zero, load-zero}
 use Rattle.edits.proofs.Spare.{add-alike, add-spare, remove-alike, remove-spare}
 use Rattle.history.specs.History.{after, answer, effect, ofState, starts}
@@ -12,7 +12,7 @@ use Rattle.listing.proofs.Spare.{entries-alike, entries-spare}
 use Rattle.merge.proofs.Spare.{reconcile-alike, reconcile-spare}
 use Rattle.state.proofs.Spare.{same-refl}
 use Rattle.state.specs.Outcome.{Outcome}
-use Rattle.state.specs.Spare.{Alike, AlikeOutcome, SpareKept, SpareZero}
+use Rattle.state.specs.Spare.{Alike, SpareKept, SpareZero}
 use Rattle.state.specs.State.{size, State}
 use Rattle.topk.proofs.Spare.{list-alike, list-spare}
 

@@ -3,6 +3,6 @@ pub mod ChangeLaws
 pub mod MergeLaws
 pub mod PairOrder
 pub mod Single
-pub mod StepLaws
 pub mod Spare
+pub mod StepLaws
 pub mod Way

@@ -5,7 +5,7 @@ use mathlib.Core.Path.{ap₂, _∙_, _≡_}
 use Prim.Native.Nat.{_<_, suc, zero, ℕ, _≤_}
 use native.Mathlib.Nat.{le-refl}
 use native.Mathlib.Omega.{arith}
-use Rattle.calls.proofs.Spare.{outcome-alike, outcome-spare, rest-alike}
+use Rattle.calls.proofs.Spare.{AlikeOutcome, outcome-alike, outcome-spare, rest-alike}
 use Rattle.edits.proofs.Spare.{added-alike, added-spare, removed-alike, removed-spare}
 use Rattle.merge.proofs.MergeLaws.{reconcile-agree}
 use Rattle.merge.specs.Reconcile.{adding, merged, overPairs, overRow, reconcileCall, reconcileConditions, reconciled, removing, takes}
@@ -13,7 +13,7 @@ use Rattle.packed.specs.Edges.{edge}
 use Rattle.packed.specs.Pairs.{pairCount}
 use Rattle.state.proofs.Spare.{alike-links, alike-nodes, alike-refl, same-agree, same-refl, spare-refl, spare-trans}
 use Rattle.state.specs.Refusal.{refusal}
-use Rattle.state.specs.Spare.{Alike, AlikeOutcome, SameBits, SpareKept}
+use Rattle.state.specs.Spare.{Alike, SameBits, SpareKept}
 use Rattle.state.specs.State.{graph, size, State}
 
 -- what two changes keep at each pair a < b < n they keep over all these pairs

@@ -7,7 +7,6 @@ use lib.ListN.{length}
 use Rattle.packed.specs.Bits.{bitAt}
 use Rattle.packed.specs.Pairs.{pairCount}
 use Rattle.state.specs.Marks.{markBits}
-use Rattle.state.specs.Outcome.{Outcome}
 use Rattle.state.specs.State.{State, size}
 
 -- bytes of the same length with the same bits at some places
@@ -27,11 +26,6 @@ pub record Alike (s t : State) : Type 0 where
   pub edges : SameBits (pairCount (size s)) (s .edges) (t .edges)
   pub figures : s .figures ≡ t .figures
   pub marks : SameBits (markBits (size s)) (s .marks) (t .marks)
-
--- What two calls leave differs in spare bits at most.
-pub record AlikeOutcome (o p : Outcome) : Type 0 where
-  pub refusal : o .refusal ≡ p .refusal
-  pub after : Alike (o .after) (p .after)
 
 -- t has the spare bits of s, and its lengths.
 pub record SpareKept (s t : State) : Type 0 where

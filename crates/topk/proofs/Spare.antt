@@ -23,9 +23,16 @@ use Rattle.topk.proofs.NextLaws.{best, best-looking, IsBest}
 use Rattle.topk.proofs.TurnLaws.{listed-figures, steps-lengths}
 use Rattle.topk.specs.Entries.{entry, keep, stops}
 use Rattle.topk.specs.Layout.{over}
-use Rattle.topk.specs.List.{accepted, listCall, listConditions, wanted}
-use Rattle.topk.specs.Spare.{AlikeListed}
+use Rattle.topk.specs.List.{accepted, listCall, listConditions, Listed, wanted}
 use Rattle.topk.specs.Steps.{at, bestBelow, listed, Next, nothing, Progress, start, step, stepAt, steps, stored, took, worth}
+
+-- what two lists leave differs in spare bits at most
+pub record AlikeListed (l m : Listed) : Type 0 where
+  pub refusal : l .refusal ≡ m .refusal
+  pub recomputed : l .recomputed ≡ m .recomputed
+  pub after : Alike (l .after) (m .after)
+  pub entries : l .entries ≡ m .entries
+  pub scratch : l .scratch ≡ m .scratch
 
 -- ---- it keeps them: what is next is a node, and only its mark is written
 

@@ -5,4 +5,3 @@ pub mod Layout
 pub mod Turns
 pub mod List
 pub mod Right
-pub mod Spare
