@@ -9,7 +9,7 @@ use Rattle.arith.specs.Sums.{countTo}
 use Rattle.cases.proofs.Reflect.{alike, always, bits, both, everywhere, lists, numbers, orders, Reflects, said-as, whenever}
 use Rattle.ego.specs.Graph.{Graph}
 use Rattle.ego.specs.Score.{score}
-use Rattle.history.specs.History.{best, edits, Effect, firstK, holding, Kept, links, nodes, OfEdit, OfList, others, out, refusal, Says, Sentence, settled, settles, stale, worked}
+use Rattle.history.specs.History.{best, edits, Effect, firstK, holding, links, nodes, OfEdit, OfList, others, out, refusal, Says, Sentence, settled, settles, stale, worked}
 use Rattle.history.specs.Model.{add, asRecords, Call, clear, Entries, inRow, list, load, model, modelRefusal, reconcile, remove, room}
 use Rattle.state.specs.Refusal.{touched}
 use Rattle.state.specs.State.{figure, graph, isStale, size, State}

@@ -61,8 +61,8 @@ lengthened = leaving (λ s. state (s .edges) (s .figures ++ 0 ∷ []) (s .marks)
 abbrev pub answering : ℕ → Effect → Effect
 answering r e = record { answer = r; after = e .after; recomputed = e .recomputed; entries = e .entries; scratch = e .scratch }
 
-abbrev pub listing : Entries → Effect → Effect
-listing entries e = record { answer = e .answer; after = e .after; recomputed = e .recomputed; entries = entries; scratch = e .scratch }
+abbrev pub withEntries : Entries → Effect → Effect
+withEntries entries e = record { answer = e .answer; after = e .after; recomputed = e .recomputed; entries = entries; scratch = e .scratch }
 
 abbrev pub overcounting : Effect → Effect
 overcounting e = record { answer = e .answer; after = e .after; recomputed = e .recomputed + 1; entries = e .entries; scratch = e .scratch }
@@ -93,8 +93,8 @@ wrongs =
     -- Refusal 4 for 5.
     wrong refusal 3 (clear ∷ []) (add 0 0) (answering 4) ∷
     -- The first two exchanged at a tie.
-    wrong firstK 4 ring two (listing (inRow (1 ∷ unit ∷ 0 ∷ unit ∷ []))) ∷
-    wrong firstK 4 ring twoRecords (listing (asRecords (entry 1 unit ∷ entry 0 unit ∷ []))) ∷
+    wrong firstK 4 ring two (withEntries (inRow (1 ∷ unit ∷ 0 ∷ unit ∷ []))) ∷
+    wrong firstK 4 ring twoRecords (withEntries (asRecords (entry 1 unit ∷ entry 0 unit ∷ []))) ∷
     -- A worked count one too many.
     wrong worked 4 ring two overcounting ∷
     wrong worked 4 ring twoRecords overcounting ∷

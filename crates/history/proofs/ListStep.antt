@@ -16,7 +16,7 @@ use Rattle.arith.proofs.Tests.{or-false-both, test}
 use Rattle.arith.specs.Sums.{countTo}
 use Rattle.ego.specs.Graph.{Graph}
 use Rattle.ego.specs.Score.{score}
-use Rattle.history.specs.History.{after, answer, best, effect, holding, Kept, ofList, ofRecords, out}
+use Rattle.history.specs.History.{after, answer, best, effect, holding, ofList, ofRecords, out, Unaltered}
 use Rattle.history.specs.Model.{asRecords, Entries, inRow, list, room}
 use Rattle.calls.proofs.AcceptLaws.{lengths-pass, passes}
 use Rattle.state.proofs.CrowdedLaws.{before-agree}
@@ -169,5 +169,5 @@ module _ (s : State) (g : Graph) (h : Sound (size s) g s) (entries : Entries) (s
         → (isStale done p ≡ false) × (figure done p ≡ score g (size s) p)
     list-settles p l w = rw ran (mark-is zero-asked p l ∙ rw w (and-comm (isStale s p) false), figure-is zero-asked p l ∙ rw w)
 
-    pub list-others : (p : ℕ) → p < size s → out s (best (size s) g k) p ≡ false → Kept s done p
+    pub list-others : (p : ℕ) → p < size s → out s (best (size s) g k) p ≡ false → Unaltered s done p
     list-others p l w = rw ran (mark-is zero-asked p l ∙ rw w (and-comm (isStale s p) true), figure-is zero-asked p l ∙ rw w)

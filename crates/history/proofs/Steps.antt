@@ -14,7 +14,7 @@ use Rattle.ego.proofs.WithPair.{pair-agree}
 use Rattle.ego.specs.Change.{withPair}
 use Rattle.ego.specs.Graph.{Graph}
 use Rattle.history.proofs.ListStep.{list-answers, list-stays}
-use Rattle.history.specs.History.{after, answer, effect, Kept, ofState}
+use Rattle.history.specs.History.{after, answer, effect, ofState, Unaltered}
 use Rattle.history.specs.Model.{add, below, Call, clear, conditions, Entries, list, load, model, modelRefusal, ownConditions, reconcile, remove, wouldHold}
 use Rattle.merge.proofs.MergeLaws.{merged-is, reconcile-agree, reconciled-sound}
 use Rattle.merge.specs.Reconcile.{merged, reconcileCall, reconcileConditions, reconciled}
@@ -199,14 +199,14 @@ module _ (s : State) (g : Graph) (h : Sound (size s) g s) where
       apart : {on : Bool} → Named (size s) g a b on → touched (graph s) a b p ≡ false
       apart d = touched-agree a b (d .first) (d .second) links p l ∙ u
 
-      pub add-untouched : Kept s (after s (add a b)) p
+      pub add-untouched : Unaltered s (after s (add a b)) p
       unfolding added
-      add-untouched = call-leaves s fits g (add a b) addTests (added s a b) add-is add-same (λ t. Kept s t p)
+      add-untouched = call-leaves s fits g (add a b) addTests (added s a b) add-is add-same (λ t. Unaltered s t p)
           (λ z. let e = apart (add-named z) in edited-kept s a b true (ends a b) (marks-room fits) p l (untouched-end (graph s) a b p e) e) (λ d. (refl, refl))
 
-      pub remove-untouched : Kept s (after s (remove a b)) p
+      pub remove-untouched : Unaltered s (after s (remove a b)) p
       unfolding removed
-      remove-untouched = call-leaves s fits g (remove a b) removeTests (removed s a b) remove-is remove-same (λ t. Kept s t p)
+      remove-untouched = call-leaves s fits g (remove a b) removeTests (removed s a b) remove-is remove-same (λ t. Unaltered s t p)
           (λ z. let e = apart (remove-named z) in edited-kept s a b false (touched (graph s) a b) (marks-room fits) p l e e) (λ d. (refl, refl))
 
   module _ (theirs base : List ℕ) where

@@ -88,8 +88,8 @@ OfEdit (reconcile theirs base) P = Unit {0}
 OfEdit (list entries scratch) P = Unit {0}
 
 -- the node's figure and mark are as they were
-abbrev pub Kept : State → State → ℕ → Type 0
-Kept s t p = (isStale t p ≡ isStale s p) × (figure t p ≡ figure s p)
+abbrev pub Unaltered : State → State → ℕ → Type 0
+Unaltered s t p = (isStale t p ≡ isStale s p) × (figure t p ≡ figure s p)
 
 -- ---- demand 3, sentence by sentence
 
@@ -115,9 +115,10 @@ Says n s g call e worked = OfList call (λ entries. e .answer ≡ 0 → e .recom
 Says n s g call e settles = OfList call (λ entries. e .answer ≡ 0 → (p : ℕ) → p < n → out s (best n g (room entries)) p ≡ true
     → (isStale (e .after) p ≡ false) × (figure (e .after) p ≡ score g n p))
 -- and alters no other node's figure or mark.
-Says n s g call e others = OfList call (λ entries. e .answer ≡ 0 → (p : ℕ) → p < n → out s (best n g (room entries)) p ≡ false → Kept s (e .after) p)
+Says n s g call e others = OfList call (λ entries. e .answer ≡ 0 → (p : ℕ) → p < n → out s (best n g (room entries)) p ≡ false
+    → Unaltered s (e .after) p)
 -- No add or removal alters the figure or mark of a node other than its two ends and their common neighbours.
-Says n s g call e edits = OfEdit call (λ a b. (p : ℕ) → p < n → touched g a b p ≡ false → Kept s (e .after) p)
+Says n s g call e edits = OfEdit call (λ a b. (p : ℕ) → p < n → touched g a b p ≡ false → Unaltered s (e .after) p)
 -- The number of nodes stays.
 Says n s g call e nodes = size (e .after) ≡ n
 

@@ -15,8 +15,8 @@ abbrev pub rowBelow : ℕ → ℕ → List (ℕ × ℕ)
 rowBelow b a = map (λ (x : ℕ). (x, b)) (range 0 a)
 
 -- one pair more
-pub row-more : (b a : ℕ) → pairsBelow b ++ rowBelow b (suc a) ≡ pairsBelow b ++ rowBelow b a ++ (a, b) ∷ []
-row-more b a =
+pub row-below-more : (b a : ℕ) → pairsBelow b ++ rowBelow b (suc a) ≡ pairsBelow b ++ rowBelow b a ++ (a, b) ∷ []
+row-below-more b a =
     ap (λ xs. pairsBelow b ++ map (λ (x : ℕ). (x, b)) xs) (range-last 0 a ∙ ap (λ x. range 0 a ++ x ∷ []) (zero-add a))
     ∙ ap (λ ps. pairsBelow b ++ ps) (map-append (λ (x : ℕ). (x, b)) (range 0 a) (a ∷ []))
     ∙ sym (append-assoc (pairsBelow b) (rowBelow b a) ((a, b) ∷ []))

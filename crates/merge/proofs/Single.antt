@@ -18,10 +18,10 @@ use Rattle.state.specs.State.{graph, size, State}
 use Rattle.calls.proofs.AcceptLaws.{lengths-pass, outcome-accepted, outcome-refusal}
 use Rattle.edits.proofs.NamedLaws.{add-passed, Named, remove-passed}
 use Rattle.edits.specs.Edit.{addCall, added, edited, removeCall, removed}
-use Rattle.merge.proofs.BitOrder.{row-more, rowBelow}
+use Rattle.merge.proofs.BitOrder.{row-below-more, rowBelow}
 use Rattle.merge.proofs.MergeLaws.{chosen, chosen-was, new, old, taking}
 use Rattle.merge.proofs.PairOrder.{halfway-next}
-use Rattle.merge.proofs.Way.{fits, on-the-way, start, way-shows, wayState}
+use Rattle.merge.proofs.Way.{fits, on-the-way, way-shows, wayStart, wayState}
 use Rattle.merge.specs.Reconcile.{overPairs, overRow, reconcileCall, reconciled}
 use Rattle.merge.specs.Single.{Accepts, addition, Change, changeEach, changes, make, pairsBelow, removal}
 
@@ -49,7 +49,7 @@ module _ (choice : Graph) (single : ℕ → ℕ → Change) (change : ℕ → �
     row-accepts (suc a) b h l e =
         let t = overRow change b a (overPairs change b s) in
         let before = pairsBelow b ++ rowBelow b a in
-        subst (λ cs. Accepts s cs (change a b t)) (sym (ap picked (row-more b a) ∙ picked-append before ((a, b) ∷ [])))
+        subst (λ cs. Accepts s cs (change a b t)) (sym (ap picked (row-below-more b a) ∙ picked-append before ((a, b) ∷ [])))
         (accepts-append s t (change a b t) (picked before) (picked ((a, b) ∷ [])) (row-accepts a b (omega arith) l e) (one a b h l))
 
     rows-accept : (b : ℕ) → b ≤ n → Accepts s (picked (pairsBelow b)) (overPairs change b s)
@@ -116,14 +116,15 @@ module _ (s : State) (theirs base : List ℕ) (z : reconcileCall s theirs base .
   abbrev singles : Bool → List Change
   singles on = changeEach (single on) (chosen (graph s) (edge theirs) (edge base) on) (pairsBelow (size s))
 
-  each : (on : Bool) → Accepts (start s theirs base on) (singles on) (overPairs (taking (graph s) (edge theirs) (edge base) on) (size s) (start s theirs base on))
+  each : (on : Bool)
+      → Accepts (wayStart s theirs base on) (singles on) (overPairs (taking (graph s) (edge theirs) (edge base) on) (size s) (wayStart s theirs base on))
   each on =
       rows-accept (chosen (graph s) (edge theirs) (edge base) on) (single on) (taking (graph s) (edge theirs) (edge base) on) (size s)
-      (start s theirs base on) (one on) (size s) (le-refl (size s))
+      (wayStart s theirs base on) (one on) (size s) (le-refl (size s))
 
   -- MADE ONE AFTER THE OTHER, the removals and then the additions in bit order are each accepted, and the last leaves what the reconcile leaves.
   pub single-steps : Accepts s (changes s theirs base) (reconcileCall s theirs base .after)
   unfolding changes reconcileCall reconciled
   single-steps =
       rw (outcome-accepted _ s (reconciled s theirs base) (sym (outcome-refusal _ s (reconciled s theirs base)) ∙ z))
-      (accepts-append s (start s theirs base true) (reconciled s theirs base) (singles false) (singles true) (each false) (each true))
+      (accepts-append s (wayStart s theirs base true) (reconciled s theirs base) (singles false) (singles true) (each false) (each true))

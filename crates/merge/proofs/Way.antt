@@ -24,21 +24,21 @@ use Rattle.merge.specs.Steps.{stepped}
 
 module _ (s : State) (theirs base : List ℕ) where
   -- the state before the removals, and before the additions
-  abbrev pub start : Bool → State
-  start false = s
-  start true = overPairs (removing (graph s) (edge theirs) (edge base)) (size s) s
+  abbrev pub wayStart : Bool → State
+  wayStart false = s
+  wayStart true = overPairs (removing (graph s) (edge theirs) (edge base)) (size s) s
 
   -- the state on the way, after the rows before b and the first a pairs of b
   abbrev pub wayState : Bool → ℕ → ℕ → State
-  wayState on b a = overRow (taking (graph s) (edge theirs) (edge base) on) b a (overPairs (taking (graph s) (edge theirs) (edge base) on) b (start on))
+  wayState on b a = overRow (taking (graph s) (edge theirs) (edge base) on) b a (overPairs (taking (graph s) (edge theirs) (edge base) on) b (wayStart on))
 
   module _ (f : Fitted (size s) (length (s .edges)) (length (s .marks))) where
     begins : Shows (size s) (graph s) s
     begins = record { nodes = refl; fits = f; links = λ x y hx hy. refl }
 
-    pub start-shows : (on : Bool) → Shows (size s) (old (graph s) (edge theirs) (edge base) on) (start on)
-    start-shows false = begins
-    start-shows true =
+    pub way-start-shows : (on : Bool) → Shows (size s) (old (graph s) (edge theirs) (edge base) on) (wayStart on)
+    way-start-shows false = begins
+    way-start-shows true =
         all-done (graph s) (edge theirs) (edge base) (size s) (Shows (size s)) (λ g g′ t. shows-agree) (λ g t h. h)
         (λ g t a b. added-shows a b) (λ g t a b. removed-shows a b)
         (simple-edges (s .edges)) (simple-edges theirs) (simple-edges base) false s begins
@@ -49,7 +49,7 @@ module _ (s : State) (theirs base : List ℕ) where
       way-shows =
           some-done (graph s) (edge theirs) (edge base) (size s) (Shows (size s)) (λ g g′ t. shows-agree) (λ g t h. h)
           (λ g t a b. added-shows a b) (λ g t a b. removed-shows a b)
-          (simple-edges (s .edges)) (simple-edges theirs) (simple-edges base) on a b (start on) h l (start-shows on)
+          (simple-edges (s .edges)) (simple-edges theirs) (simple-edges base) on a b (wayStart on) h l (way-start-shows on)
 
       pub way-lies : Within (size s) (graph (wayState on b a)) (cover (graph s) (edge theirs) (edge base) on)
       way-lies = within-agree (way-shows .links) (way-within (graph s) (edge theirs) (edge base) (size s) on (pairCount b + a))
@@ -59,14 +59,14 @@ module _ (s : State) (theirs base : List ℕ) where
       way-few which e = within-few (size s) (graph (wayState on b a)) (cover (graph s) (edge theirs) (edge base) on) which way-lies e
 
       -- the loops, which decide each pair from the state they stand at, stand at these states
-      pub way-stepped : overRow (stepped on (edge theirs) (edge base)) b a (overPairs (stepped on (edge theirs) (edge base)) b (start on)) ≡ wayState on b a
+      pub way-stepped : overRow (stepped on (edge theirs) (edge base)) b a (overPairs (stepped on (edge theirs) (edge base)) b (wayStart on)) ≡ wayState on b a
       way-stepped =
           some-stepped (graph s) (edge theirs) (edge base) (size s) (Shows (size s)) (λ g g′ t. shows-agree) (λ g t h. h)
           (λ g t a b. added-shows a b) (λ g t a b. removed-shows a b)
-          (simple-edges (s .edges)) (simple-edges theirs) (simple-edges base) on a b (start on) h l (start-shows on)
+          (simple-edges (s .edges)) (simple-edges theirs) (simple-edges base) on a b (wayStart on) h l (way-start-shows on)
 
-    pub start-stepped : overPairs (stepped false (edge theirs) (edge base)) (size s) s ≡ start true
-    start-stepped =
+    pub way-start-stepped : overPairs (stepped false (edge theirs) (edge base)) (size s) s ≡ wayStart true
+    way-start-stepped =
         all-same (graph s) (edge theirs) (edge base) (size s) (Shows (size s)) (λ g g′ t. shows-agree) (λ g t h. h)
         (λ g t a b. added-shows a b) (λ g t a b. removed-shows a b)
         (simple-edges (s .edges)) (simple-edges theirs) (simple-edges base) false s begins
