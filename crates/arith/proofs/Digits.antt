@@ -34,15 +34,15 @@ mins : (x y : ℕ) → x < 2 → y < 2 → min x (1 - y) + min x y ≡ x
 mins x y hx hy = omega arith
 
 -- a number of w digits keeps what a mask and its complement keep
-pub and-not : (w b m : ℕ) → b < 2 ^ w → m < 2 ^ w → bitAnd b (2 ^ w - 1 - m) + bitAnd b m ≡ b
-and-not zero b m hb hm = rw (lt-one hb)
-and-not (suc w) b m hb hm =
+pub and-complement : (w b m : ℕ) → b < 2 ^ w → m < 2 ^ w → bitAnd b (2 ^ w - 1 - m) + bitAnd b m ≡ b
+and-complement zero b m hb hm = rw (lt-one hb)
+and-complement (suc w) b m hb hm =
     let n : ℕ = 2 ^ suc w - 1 - m in
     let h : n / 2 ≡ 2 ^ w - 1 - m / 2 = omega (arith, pow-suc 2 w) in
     let o : n % 2 ≡ 1 - m % 2 = omega (arith, pow-suc 2 w) in
     let s : bitAnd b n ≡ bitAnd (b / 2) (2 ^ w - 1 - m / 2) * 2 + min (b % 2) (1 - m % 2) =
     and-step b n ∙ ap₂ (λ (x y : ℕ). bitAnd (b / 2) x * 2 + min (b % 2) y) h o in
-    let ih = and-not w (b / 2) (m / 2) (omega (arith, pow-suc 2 w)) (omega (arith, pow-suc 2 w)) in
+    let ih = and-complement w (b / 2) (m / 2) (omega (arith, pow-suc 2 w)) (omega (arith, pow-suc 2 w)) in
     let l = mins (b % 2) (m % 2) (mod-lt b (lit< tt)) (mod-lt m (lit< tt)) in
     sums _ _ _ _ s (and-step b m) ih l (div-add-mod' b 2)
 
@@ -58,7 +58,7 @@ pub or-is : (b k : ℕ) → bitOr b (2 ^ k) ≡ withDigit b k 1
 or-is b k = omega (arith, or-add-and b (2 ^ k), and-pow b k, with-sum b k 1)
 
 pub and-not-is : (w b k : ℕ) → b < 2 ^ w → 2 ^ k < 2 ^ w → bitAnd b (2 ^ w - 1 - 2 ^ k) ≡ withDigit b k 0
-and-not-is w b k hb hk = omega (arith, and-not w b (2 ^ k) hb hk, and-pow b k, with-sum b k 0)
+and-not-is w b k hb hk = omega (arith, and-complement w b (2 ^ k) hb hk, and-pow b k, with-sum b k 0)
 
 -- `128 >> j`
 pub mask-is : (j : ℕ) → j < 8 → 128 / 2 ^ j ≡ 2 ^ (7 - j)

@@ -15,8 +15,11 @@ pub coprime-divides : (a b x y m : ℕ) → x * a ≡ y * b + 1 → a ∣ m → 
 coprime-divides a b x y m bezout p q =
     let k = m / a in
     let j = m / b in
-    let xs : a * b * (x * j) ≡ y * b * m + m = mul-comm (a * b) (x * j) ∙ mul-mul-mul-comm x j a b ∙ ap (λ t. x * a * t) (div-mul-cancel b q) ∙ ap (λ t. t * m) bezout ∙ add-mul (y * b) 1 m ∙ ap (λ t. y * b * m + t) (one-mul m) in
-    let ys : a * b * (y * k) ≡ y * b * m = mul-comm (a * b) (y * k) ∙ ap (λ t. y * k * t) (mul-comm a b) ∙ mul-mul-mul-comm y k b a ∙ ap (λ t. y * b * t) (div-mul-cancel a p) in
+    let xs : a * b * (x * j) ≡ y * b * m + m =
+    mul-comm (a * b) (x * j) ∙ mul-mul-mul-comm x j a b ∙ ap (λ t. x * a * t) (div-mul-cancel b q)
+    ∙ ap (λ t. t * m) bezout ∙ add-mul (y * b) 1 m ∙ ap (λ t. y * b * m + t) (one-mul m) in
+    let ys : a * b * (y * k) ≡ y * b * m =
+    mul-comm (a * b) (y * k) ∙ ap (λ t. y * k * t) (mul-comm a b) ∙ mul-mul-mul-comm y k b a ∙ ap (λ t. y * b * t) (div-mul-cancel a p) in
     let e : a * b * (x * j - y * k) ≡ m = mul-sub (a * b) (x * j) (y * k) ∙ omega arith in
     subst (λ t. a * b ∣ t) e (dvd-mul-right (a * b) (x * j - y * k))
 
@@ -43,7 +46,8 @@ product-divides n m (f ∷ fs) t h =
     let a = and-true (ltb 0 (f .b)) _ t in
     let b = and-true (leb (f .b) n) _ (a .1) in
     let c = and-true (eqb (f .x * product fs) (f .y * f .b + 1)) (sound n fs) (b .1) in
-    coprime-divides (product fs) (f .b) (f .x) (f .y) m (eqb-true _ _ (c .0)) (product-divides n m fs (c .1) h) (h (f .b) (ltb-true 0 (f .b) (a .0)) (leb-true (f .b) n (b .0)))
+    coprime-divides (product fs) (f .b) (f .x) (f .y) m (eqb-true _ _ (c .0)) (product-divides n m fs (c .1) h)
+    (h (f .b) (ltb-true 0 (f .b) (a .0)) (leb-true (f .b) n (b .0)))
 
 -- d + 1 divides m, as a test
 abbrev pub divides? : ℕ → ℕ → Bool

@@ -58,7 +58,8 @@ module _ {A B : Type 0} where
   distinct-map F inj (x ∷ xs) d =
       (λ m. let (a, i, e) = Memᴰ·of-map F xs m in d .0 (Memᴰ·cast (inj x a (sym e)) i), distinct-map F inj xs (d .1))
 
-  pub distinct-concat : (F : A → List B) → ((x : A) → Distinct (F x)) → ((x y : A) (z : B) → List·Memᴰ z (F x) → List·Memᴰ z (F y) → x ≡ y) → (xs : List A) → Distinct xs → Distinct (concatMap F xs)
+  pub distinct-concat : (F : A → List B) → ((x : A) → Distinct (F x))
+      → ((x y : A) (z : B) → List·Memᴰ z (F x) → List·Memᴰ z (F y) → x ≡ y) → (xs : List A) → Distinct xs → Distinct (concatMap F xs)
   distinct-concat F each far [] d = tt
   distinct-concat F each far (x ∷ xs) d =
       distinct-append (F x) (concatMap F xs) (each x) (distinct-concat F each far xs (d .1))

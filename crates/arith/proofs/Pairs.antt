@@ -20,7 +20,10 @@ module _ {A : Type 0} where
       go (inl p) (inl q) r = absurd (d (p ∙ sym q))
       go (inl p) (inr j) r = inl (Memᴰ·append-left (pairs zs) (Memᴰ·cast (λ t. (p t, y)) (Memᴰ·map (λ (w : A). (z, w)) j)))
       go (inr i) (inl q) r = inr (Memᴰ·append-left (pairs zs) (Memᴰ·cast (λ t. (q t, x)) (Memᴰ·map (λ (w : A). (z, w)) i)))
-      go (inr i) (inr j) r = elim (r i j) [ inl a ↦ inl (Memᴰ·append-right (map (λ w. (z, w)) zs) a) | inr a ↦ inr (Memᴰ·append-right (map (λ w. (z, w)) zs) a) ]
+      go (inr i) (inr j) r = elim (r i j) [
+        | inl a ↦ inl (Memᴰ·append-right (map (λ w. (z, w)) zs) a)
+        | inr a ↦ inr (Memᴰ·append-right (map (λ w. (z, w)) zs) a)
+      ]
 
 pub record Pair (k : ℕ) (xs : List ℕ) (c : ℕ × ℕ) : Type 0 where
   pub first : List·Memᴰ (c .0) xs

@@ -2,14 +2,14 @@
 use mathlib.Core.Bool.{Bool, cond, false, true, true≢false}
 use mathlib.Core.List.{_++_, [], append-nil, List, List·Memᴰ, List·Memᴰ·cases-cons, List·Memᴰ·head, List·Memᴰ·not-nil, List·Memᴰ·tail, _∷_}
 use mathlib.Core.Logic.{inl, inr, _≢_}
-use mathlib.Core.Path.{ap, refl, sym, _∙_, _≡_}
-use Prim.Native.Nat.{_+_, _<_, suc, zero, ℕ, _≤_}
+use mathlib.Core.Path.{ap, ap₂, refl, sym, _∙_, _≡_}
+use Prim.Native.Nat.{_+_, _-_, _<_, suc, zero, ℕ, _≤_}
 use native.Mathlib.Nat.{add-suc, add-zero, eq-or-lt-of-le, le-refl, suc-add, suc-inj, suc-ne-zero, zero-add}
 use native.Mathlib.Omega.{arith}
 use borrow.Author.Tests.{eqb-false, eqb-true, ne-eqb}
 use lib.Dec.{eqb}
 use lib.ListN.{getD, length, length-append}
-use Rattle.arith.proofs.Filter.{filter-append}
+use Rattle.arith.proofs.Filter.{filter-append, filter-none}
 use Rattle.arith.proofs.Tests.{eqb-same, test}
 use Rattle.arith.specs.Lists.{concatMap, consIf, count, Distinct, filter, range}
 use Rattle.arith.specs.Sums.{countTo, sumTo, tabulate}
@@ -29,7 +29,8 @@ up-lower (x ∷ xs) h u = (omega (arith, u .0), u .1)
 pub up-filter : (f : ℕ → Bool) (k : ℕ) (xs : List ℕ) → Up k xs → Up k (filter f xs)
 up-filter f k [] u = tt
 up-filter f k (x ∷ xs) u =
-    elim (test (f x)) [ inl e ↦ rw e (u .0, up-filter f (suc x) xs (u .1)) | inr e ↦ rw e (up-lower (filter f xs) (omega (arith, u .0)) (up-filter f (suc x) xs (u .1))) ]
+    let rest = up-filter f (suc x) xs (u .1) in
+    elim (test (f x)) [ inl e ↦ rw e (u .0, rest) | inr e ↦ rw e (up-lower (filter f xs) (omega (arith, u .0)) rest) ]
 
 pub mem-up : {v k : ℕ} (xs : List ℕ) → Up k xs → List·Memᴰ v xs → k ≤ v
 mem-up [] u m = absurd (List·Memᴰ·not-nil m)
@@ -70,6 +71,26 @@ tabulate-range (suc n) = ap (λ l. l ++ n ∷ []) (tabulate-range n) ∙ sym (ra
 
 pub filter-last : (q : ℕ → Bool) (n : ℕ) → filter q (range 0 (suc n)) ≡ filter q (range 0 n) ++ consIf (q n) n []
 filter-last q n = ap (filter q) (range-last 0 n ∙ ap (λ i. range 0 n ++ i ∷ []) (zero-add n)) ∙ filter-append q (range 0 n) (n ∷ [])
+
+-- a search that stood at q finds none before a
+pub filter-skip : (f : ℕ → Bool) (i q a : ℕ) → i ≤ q → q ≤ a → ((p : ℕ) → q ≤ p → p < a → f p ≡ false) → filter f (range i (a - i)) ≡ filter f (range i (q - i))
+filter-skip f i q a h l none =
+    let all : a - i ≡ q - i + (a - q) = omega arith in
+    let at : i + (q - i) ≡ q = omega arith in
+    let rest : filter f (range (i + (q - i)) (a - q)) ≡ [] =
+    filter-none f (range (i + (q - i)) (a - q)) (λ p m. let b = mem-range (i + (q - i)) (a - q) m in none p (omega (arith, b)) (omega (arith, b))) in
+    ap (λ m. filter f (range i m)) all ∙ ap (filter f) (sym (range-append i (q - i) (a - q))) ∙ filter-append f (range i (q - i)) (range (i + (q - i)) (a - q))
+    ∙ ap (λ l. filter f (range i (q - i)) ++ l) rest ∙ append-nil (filter f (range i (q - i)))
+
+-- and finds a
+pub filter-hit : (f : ℕ → Bool) (i q a : ℕ) → i ≤ q → q ≤ a → ((p : ℕ) → q ≤ p → p < a → f p ≡ false) → f a ≡ true
+    → filter f (range i (a + 1 - i)) ≡ filter f (range i (q - i)) ++ a ∷ []
+filter-hit f i q a h l none some =
+    let all : a + 1 - i ≡ suc (a - i) = omega arith in
+    let at : i + (a - i) ≡ a = omega arith in
+    ap (λ m. filter f (range i m)) all ∙ ap (filter f) (range-last i (a - i) ∙ ap (λ x. range i (a - i) ++ x ∷ []) at)
+    ∙ filter-append f (range i (a - i)) (a ∷ [])
+    ∙ ap₂ (λ l t. l ++ consIf t a []) (filter-skip f i q a h l none) some
 
 abbrev pub times : ℕ → List ℕ → ℕ
 times v h = count (λ x. eqb x v) h

@@ -1,17 +1,18 @@
 -- The laws of `sumTo`, of counts, and of lists filled by a loop. Assumes nothing.
-use mathlib.Core.Bool.{Bool, false, or-true, true, true≢false}
+use mathlib.Core.Bool.{Bool, false, or-false, or-true, true, true≢false, _||_}
 use mathlib.Core.List.{_++_, [], List, _∷_}
 use mathlib.Core.Logic.{inl, inr, _≢_, ⊎-elim}
 use mathlib.Core.Path.{ap, ap₂, refl, sym, _∙_, _≡_}
 use Prim.Native.Nat.{_*_, _+_, _<_, suc, zero, zero-le, ℕ, _≤_}
 use native.Mathlib.Decide.{decLt}
-use native.Mathlib.Nat.{eq-or-lt-of-le, le-antisymm, le-refl, ne-of-lt, suc-mul}
+use native.Mathlib.Nat.{add-suc, add-zero, eq-or-lt-of-le, le-antisymm, le-refl, ne-of-lt, suc-mul}
 use native.Mathlib.Numerals.{add-one}
 use native.Mathlib.Omega.{arith}
 use lib.ListN.{getD, getD-replicate, length, length-append, length-replicate, length-set, List·getD-append, replicate, set}
 use lib.Seq.{ext-getD, getD-at, getD-set-other, getD-set-same}
 use Rattle.arith.proofs.Tests.{test}
-use Rattle.arith.specs.Sums.{anyTo, bit, countTo, fillTo, sumTo, tabulate}
+use Rattle.arith.specs.Sums.{anyTo, bit, countTo, sumTo, tabulate}
+use Rattle.arith.specs.inside.Fill.{fillTo}
 
 pub sumTo-none : (f : ℕ → ℕ) → sumTo f 0 ≡ 0
 unfolding sumTo
@@ -38,6 +39,12 @@ unfolding sumTo
 sumTo-first f zero = omega arith
 sumTo-first f (suc n) = omega (arith, sumTo-first f n)
 
+-- the terms below m, and the n from m on
+pub sumTo-cat : (f : ℕ → ℕ) (m n : ℕ) → sumTo f (m + n) ≡ sumTo f m + sumTo (λ i. f (m + i)) n
+unfolding sumTo
+sumTo-cat f m zero = ap (sumTo f) (add-zero m) ∙ omega arith
+sumTo-cat f m (suc n) = ap (sumTo f) (add-suc m n) ∙ omega (arith, sumTo-cat f m n)
+
 pub sumTo-add : (f g : ℕ → ℕ) (n : ℕ) → sumTo (λ i. f i + g i) n ≡ sumTo f n + sumTo g n
 unfolding sumTo
 sumTo-add f g zero = refl
@@ -56,7 +63,7 @@ sum-end f a b h = h ∙ ap (sumTo f) (le-antisymm a b)
 
 -- ---- counts
 
-bit-le : (t : Bool) → bit t ≤ 1
+pub bit-le : (t : Bool) → bit t ≤ 1
 bit-le true = le-refl 1
 bit-le false = zero-le
 
@@ -127,7 +134,9 @@ module _ {A : Type 0} where
       ext-getD d (fillTo f (fillTo g l m) n) (fillTo f l n) (length-fillTo f (fillTo g l m) n ∙ e ∙ sym (length-fillTo f l n)) (λ i b.
       elim (decLt i n) [
         | yes s ↦ getD-fillTo f (fillTo g l m) d n i s (omega arith) ∙ sym (getD-fillTo f l d n i s k)
-        | no s ↦ getD-fillTo-past f (fillTo g l m) d n i (omega arith) ∙ getD-fillTo-past g l d m i (omega arith) ∙ sym (getD-fillTo-past f l d n i (omega arith))
+        | no s ↦
+            getD-fillTo-past f (fillTo g l m) d n i (omega arith) ∙ getD-fillTo-past g l d m i (omega arith)
+            ∙ sym (getD-fillTo-past f l d n i (omega arith))
       ])
 
 -- ---- a test that some number below n passes
@@ -156,6 +165,17 @@ pub anyTo-never : (p : ℕ → Bool) (n : ℕ) → ((i : ℕ) → i < n → p i 
 unfolding anyTo
 anyTo-never p zero h = refl
 anyTo-never p (suc n) h = rw (anyTo-never p n (λ i k. h i (omega arith)), h n (omega arith))
+
+-- one of the first m does, or one of the n after them
+pub anyTo-cat : (p : ℕ → Bool) (m n : ℕ) → anyTo p (m + n) ≡ anyTo p m || anyTo (λ i. p (m + i)) n
+unfolding anyTo
+anyTo-cat p m zero = ap (anyTo p) (add-zero m) ∙ sym (or-false (anyTo p m))
+anyTo-cat p m (suc n) =
+    ap (anyTo p) (add-suc m n) ∙ ap (λ b. b || p (m + n)) (anyTo-cat p m n) ∙ either (anyTo p m) (anyTo (λ i. p (m + i)) n) (p (m + n))
+  where
+    either : (a b c : Bool) → (a || b) || c ≡ a || (b || c)
+    either true b c = refl
+    either false b c = refl
 
 pub anyTo-ext : (p q : ℕ → Bool) (n : ℕ) → ((i : ℕ) → i < n → p i ≡ q i) → anyTo p n ≡ anyTo q n
 unfolding anyTo
@@ -189,15 +209,46 @@ module _ {A : Type 0} where
   tabulate-is f d l h =
       ext-getD d l (tabulate f (length l)) (sym (length-tabulate f (length l))) (λ i b. h i b ∙ sym (getD-tabulate f (length l) i d b))
 
+  -- a list that a loop filled as far as its elements were not right already
+  pub fill-rest : (f : ℕ → A) (l : List A) (d : A) (n : ℕ) → n ≤ length l → ((i : ℕ) → n ≤ i → i < length l → getD l i d ≡ f i)
+      → fillTo f l n ≡ tabulate f (length l)
+  fill-rest f l d n h past =
+      let long = length-fillTo f l n in
+      tabulate-is f d (fillTo f l n) (λ i b. elim (decLt i n) [
+        | yes s ↦ getD-fillTo f l d n i s h
+        | no s ↦ getD-fillTo-past f l d n i (omega arith) ∙ past i (omega arith) (omega (arith, long))
+      ]) ∙ ap (tabulate f) long
+
   -- a list that a loop filled to its end
   pub fill-table : (f : ℕ → A) (l : List A) (d : A) {i n : ℕ} {a : List A} → n ≡ length l → i ≤ n → n ≤ i → a ≡ fillTo f l i → a ≡ tabulate f n
   fill-table f l d {i} {n} e a b h =
-      let same : i ≡ length l = le-antisymm a b ∙ e in
-      h ∙ ap (fillTo f l) same
-      ∙ tabulate-is f d (fillTo f l (length l)) (λ k g. getD-fillTo f l d (length l) k (omega (arith, length-fillTo f l (length l))) (le-refl (length l)))
-      ∙ ap (tabulate f) (length-fillTo f l (length l) ∙ sym e)
+      h ∙ ap (fillTo f l) (le-antisymm a b ∙ e) ∙ fill-rest f l d (length l) (le-refl (length l)) (λ k g i. absurd (omega arith)) ∙ ap (tabulate f) (sym e)
 
   pub tabulate-same : (x : A) (n : ℕ) → tabulate (λ i. x) n ≡ replicate n x
   tabulate-same x n =
       ext-getD x (tabulate (λ i. x) n) (replicate n x) (length-tabulate (λ i. x) n ∙ sym (length-replicate n x))
       (λ i b. let h : i < n = omega (arith, length-tabulate (λ (i : ℕ). x) n) in getD-tabulate (λ i. x) n i x h ∙ sym (getD-replicate n i x x h))
+
+-- ---- a loop over every place of a list: before turn i the first i elements are f's
+
+module _ {A : Type 0} where
+  pub record Filling (f : ℕ → A) (l₀ : List A) (end : ℕ) (l : List A) (i : ℕ) : Type 0 where
+    pub most : i ≤ end
+    pub all : end ≡ length l₀
+    pub done : l ≡ fillTo f l₀ i
+
+  pub filling-none : (f : ℕ → A) (l : List A) → Filling f l (length l) l 0
+  filling-none f l = record { most = zero-le; all = refl; done = sym (fillTo-none f l) }
+
+  module _ {f : ℕ → A} {l₀ l : List A} {end i : ℕ} (w : Filling f l₀ end l i) where
+    pub filling-length : length l ≡ length l₀
+    filling-length = fill-length f l₀ i (w .done)
+
+    pub filling-more : {r : A} → i < end → r ≡ f i → Filling f l₀ end (set l i r) (i + 1)
+    filling-more h e = record { most = omega arith; all = w .all; done = fill-step f l₀ i (w .done) e }
+
+    pub filling-all : (d : A) → end ≤ i → l ≡ tabulate f (length l₀)
+    filling-all d h = fill-table f l₀ d (w .all) (w .most) h (w .done) ∙ ap (tabulate f) (w .all)
+
+  pub filling-same : {x : A} {l₀ l : List A} {end i : ℕ} → Filling (λ _. x) l₀ end l i → end ≤ i → l ≡ replicate (length l₀) x
+  filling-same {x} {l₀} w h = filling-all w x h ∙ tabulate-same x (length l₀)

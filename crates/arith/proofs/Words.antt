@@ -148,5 +148,7 @@ trim-low x s j h =
     let a : ℕ = x / 2 ^ s in
     let r : ℕ = s - suc j in
     let e : r + 1 + j ≡ s = omega arith in
-    let p : a * 2 ^ s ≡ a * 2 ^ r * 2 * 2 ^ j = ap (λ m. a * 2 ^ m) (sym e) ∙ ap (λ y. a * y) (pow-add 2 (r + 1) j ∙ ap (λ y. y * 2 ^ j) (pow-add 2 r 1)) ∙ sym (mul-assoc a (2 ^ r * 2) (2 ^ j)) ∙ ap (λ y. y * 2 ^ j) (sym (mul-assoc a (2 ^ r) 2)) in
+    let p : a * 2 ^ s ≡ a * 2 ^ r * 2 * 2 ^ j =
+    ap (λ m. a * 2 ^ m) (sym e) ∙ ap (λ y. a * y) (pow-add 2 (r + 1) j ∙ ap (λ y. y * 2 ^ j) (pow-add 2 r 1))
+    ∙ sym (mul-assoc a (2 ^ r * 2) (2 ^ j)) ∙ ap (λ y. y * 2 ^ j) (sym (mul-assoc a (2 ^ r) 2)) in
     ap (λ y. eqb (y % 2) 1) (ap (λ y. y / 2 ^ j) p ∙ shl-shr (a * 2 ^ r * 2) j) ∙ ne-eqb (a * 2 ^ r * 2 % 2) 1 (λ q. omega arith)

@@ -1,8 +1,7 @@
--- Sums, counts, packed numbers and filled lists over the numbers below n. Each recurses on n, as a loop over 0..n runs. Assumes nothing.
+-- Sums, counts, packed numbers and lists over the numbers below n. Each recurses on n, as a loop over 0..n runs. Assumes nothing.
 use mathlib.Core.Bool.{Bool, true, false, _||_}
 use mathlib.Core.List.{List, [], _∷_, _++_}
 use Prim.Native.Nat.{ℕ, zero, suc, _+_, _*_, _^_}
-use lib.ListN.{getD, set}
 
 -- f 0 + .. + f (n - 1)
 unfoldable pub sumTo : (ℕ → ℕ) → ℕ → ℕ
@@ -32,12 +31,3 @@ module _ {A : Type 0} where
   unfoldable pub tabulate : (ℕ → A) → ℕ → List A
   tabulate f zero = []
   tabulate f (suc n) = tabulate f n ++ f n ∷ []
-
-  -- the list l with f 0 .. f (n - 1) for its first n elements
-  unfoldable pub fillTo : (ℕ → A) → List A → ℕ → List A
-  fillTo f l zero = l
-  fillTo f l (suc n) = set (fillTo f l n) n (f n)
-
--- the first m elements of the list, and 0 in the places past its end
-unfoldable pub padded : ℕ → List ℕ → List ℕ
-padded m xs = tabulate (λ i. getD xs i 0) m

@@ -17,7 +17,8 @@ use Rattle.ego.specs.Bound.{bound}
 use Rattle.packed.proofs.BitLaws.{byte-bit}
 use Rattle.packed.proofs.EdgeLaws.{edge-self, edge-two}
 use Rattle.packed.proofs.PairLaws.{pair-lt}
-use Rattle.packed.specs.Bits.{bitAt, Bytes}
+use Rattle.packed.specs.Bits.{bitAt}
+use Rattle.packed.specs.inside.Bytes.{Bytes}
 use Rattle.packed.specs.Edges.{edge}
 use Rattle.packed.specs.Pairs.{pairCount, pairIndex}
 use Rattle.calls.proofs.SnapshotLaws.{Fits, fits-by}
@@ -37,7 +38,9 @@ written-bit s i h =
     let f : ℕ → Bool = λ j. ltb (8 * k + (7 - j)) (pairCount n) && bitAt (s .edges) (8 * k + (7 - j)) in
     let back : 8 * k + (7 - j) ≡ i = omega arith in
     let next : 1 + k ≡ suc k = omega arith in
-    ap (λ x. bitOf x j) (getD-drop 1 (tabulate (snapshotByte (s .edges) n) (snapshotBytes n)) k 0 ∙ ap (λ m. getD (tabulate (snapshotByte (s .edges) n) (snapshotBytes n)) m 0) next ∙ getD-tabulate (snapshotByte (s .edges) n) (snapshotBytes n) (suc k) 0 (omega arith))
+    ap (λ x. bitOf x j) (getD-drop 1 (tabulate (snapshotByte (s .edges) n) (snapshotBytes n)) k 0
+    ∙ ap (λ m. getD (tabulate (snapshotByte (s .edges) n) (snapshotBytes n)) m 0) next
+    ∙ getD-tabulate (snapshotByte (s .edges) n) (snapshotBytes n) (suc k) 0 (omega arith))
     ∙ pack-bit f 8 j (omega arith)
     ∙ ap (λ m. ltb m (pairCount n) && bitAt (s .edges) m) back
 
@@ -51,7 +54,8 @@ links-back s a b ha hb = elim (ℕ-discrete a b) [
 ]
 
 -- each byte of an accepted sheet is the one that is written
-byte-of : (n : ℕ) (snapshot : List ℕ) → Bytes snapshot → Fits n snapshot → (i : ℕ) → i < snapshotBytes n → getD snapshot i 0 ≡ snapshotByte (snapshotEdges snapshot) n i
+byte-of : (n : ℕ) (snapshot : List ℕ) → Bytes snapshot → Fits n snapshot → (i : ℕ) → i < snapshotBytes n
+    → getD snapshot i 0 ≡ snapshotByte (snapshotEdges snapshot) n i
 unfolding snapshotByte spareSet
 byte-of n snapshot small fits zero h = omega (arith, fits .nodes)
 byte-of n snapshot small fits (suc k) h =
@@ -69,11 +73,13 @@ byte-of n snapshot small fits (suc k) h =
     ])
 
 -- WRITE OF A LOADED SHEET gives the sheet back.
-pub sheet-back : (n : ℕ) (snapshot : List ℕ) → Bytes snapshot → refusal (loadConditions n snapshot) ≡ 0 → snapshotOf (loaded n (snapshotEdges snapshot)) ≡ snapshot
+pub sheet-back : (n : ℕ) (snapshot : List ℕ) → Bytes snapshot → refusal (loadConditions n snapshot) ≡ 0
+    → snapshotOf (loaded n (snapshotEdges snapshot)) ≡ snapshot
 unfolding snapshotOf loaded
 sheet-back n snapshot small e =
     let fits = fits-by n snapshot _ refl e in
     let edges = snapshotEdges snapshot in
     let m : length (tabulate (bound (edge edges) n) n) ≡ n = length-tabulate (bound (edge edges) n) n in
     ap (λ m. tabulate (snapshotByte edges m) (snapshotBytes m)) m
-    ∙ sym (tabulate-is (snapshotByte edges n) 0 snapshot (λ i h. byte-of n snapshot small fits i (omega (arith, fits .long))) ∙ ap (tabulate (snapshotByte edges n)) (fits .long))
+    ∙ sym (tabulate-is (snapshotByte edges n) 0 snapshot (λ i h. byte-of n snapshot small fits i (omega (arith, fits .long)))
+    ∙ ap (tabulate (snapshotByte edges n)) (fits .long))

@@ -1,5 +1,5 @@
 -- A snapshot's refusals and its parts. Assumes nothing.
-use mathlib.Core.Bool.{_&&_, false, true}
+use mathlib.Core.Bool.{_&&_, Bool, Bool·not-not, false, not, true}
 use mathlib.Core.List.{_++_, [], List, _∷_}
 use mathlib.Core.Path.{ap, refl, subst, sym, _∙_, _≡_}
 use Prim.Native.Nat.{_%_, _*_, _+_, _-_, _/_, _<_, _^_, suc, zero, ℕ, _≤_}
@@ -7,22 +7,26 @@ use native.Mathlib.Decide.{decLt}
 use native.Mathlib.Nat.{lt-of-le-of-lt, mod-eq-of-lt, mul-le-mul}
 use native.Mathlib.Omega.{arith}
 use borrow.Author.Tests.{eq-eqb, eqb-true, le-leb, le-ltb, lt-leb, lt-ltb, ne-eqb, not-false}
-use lib.Dec.{eqb, ltb}
+use lib.Dec.{eqb, leb, ltb}
 use lib.ListN.{drop, getD, length, length-drop, length-replicate, replicate, take}
-use lib.Seq.{ext-getD, getD-drop, take-length}
-use Rattle.arith.proofs.Sums.{anyTo-here, anyTo-never, fill-table, getD-fillTo, getD-tabulate, length-tabulate, tabulate-is}
+use lib.Seq.{getD-drop, take-length}
+use Rattle.arith.proofs.Sums.{anyTo-cat, anyTo-ext, anyTo-never, anyTo-none, getD-fillTo, tabulate-ext, tabulate-is}
 use Rattle.arith.proofs.Tests.{or-false-both}
 use Rattle.arith.proofs.Words.{pack-is, trim-high, trim-le, trim-low}
-use Rattle.arith.specs.Sums.{fillTo, tabulate}
+use Rattle.arith.specs.inside.Fill.{fillTo, padded}
+use Rattle.arith.specs.Sums.{anyTo, tabulate}
 use Rattle.packed.proofs.BitLaws.{byte-bit}
-use Rattle.packed.specs.Bits.{bitAt, Bytes, FirstFrom}
+use Rattle.packed.proofs.RunLaws.{run-none-set}
+use Rattle.packed.specs.Bits.{bitAt, runOf}
+use Rattle.packed.specs.inside.Bytes.{Bytes}
 use Rattle.packed.specs.Edges.{edge}
 use Rattle.packed.specs.Pairs.{maxNodes, pairCount}
 use Rattle.calls.proofs.AcceptLaws.{passes}
 use Rattle.state.proofs.RefusalLaws.{append-refused, Fitted, fitted-append, passed-after, passed-before, passed-length, refusal-none, refused-after, refused-before, refused-length}
 use Rattle.state.specs.Outcome.{lengths, stateLengths}
 use Rattle.state.specs.Refusal.{badSnapshot, Condition, crowdedAfter, everyone, otherCount, refusal, snapshotEdges, snapshotNodes, spareSet, tooMany}
-use Rattle.state.specs.Sizes.{edgeBytes, maxEdgeBytes, maxSnapshot, snapshotBytes}
+use Rattle.state.specs.Sizes.{edgeBytes, snapshotBytes}
+use Rattle.state.specs.inside.MaxSizes.{maxEdgeBytes, maxSnapshot}
 use Rattle.calls.specs.Snapshot.{formConditions, loadConditions, snapshotByte, snapshotOf, writeCall, writeConditions, written}
 use Rattle.state.specs.State.{graph, size, State}
 
@@ -31,7 +35,8 @@ module _ (cs : List Condition) (snapshot : List ℕ) where
   unfolding refusal badSnapshot
   refused-empty e = rw (eq-eqb (length snapshot) 0 e)
 
-  pub refused-other-length : (length snapshot ≡ 0 → ⊥) → (length snapshot ≡ snapshotBytes (snapshotNodes snapshot) → ⊥) → refusal (badSnapshot snapshot ∷ cs) ≡ 9
+  pub refused-other-length : (length snapshot ≡ 0 → ⊥) → (length snapshot ≡ snapshotBytes (snapshotNodes snapshot) → ⊥)
+      → refusal (badSnapshot snapshot ∷ cs) ≡ 9
   unfolding refusal badSnapshot
   refused-other-length d e = rw (ne-eqb (length snapshot) 0 d, ne-eqb (length snapshot) (snapshotBytes (snapshotNodes snapshot)) e)
 
@@ -44,29 +49,27 @@ module _ (cs : List Condition) (snapshot : List ℕ) where
     unfolding refusal badSnapshot
     passed-snapshot e = rw (ne-eqb (length snapshot) 0 some, eq-eqb (length snapshot) (snapshotBytes (snapshotNodes snapshot)) long, e)
 
--- the loop over the spare bits starts past the pairs
--- the first bit that is set past the pairs, where there is one
-pub spare-found : (n : ℕ) (edges : List ℕ) {start end r : ℕ} → start ≡ pairCount n → end ≡ 8 * edgeBytes n → FirstFrom (bitAt edges) start end r
-    → ltb r end ≡ spareSet n edges
-unfolding spareSet
-spare-found n edges {start} {end} {r} e l f = elim (decLt r end) [
-  | yes h ↦ lt-ltb r end h ∙ sym (anyTo-here _ _ r (omega arith) (rw (le-leb (pairCount n) r (omega (arith, f .start))) (f .some h)))
-  | no h ↦ le-ltb r end (omega arith) ∙ sym (anyTo-never _ _ (λ i b. elim (decLt i (pairCount n)) [
-    | yes k ↦ rw (lt-leb (pairCount n) i k)
-    | no k ↦ rw (le-leb (pairCount n) i (omega arith)) (f .none i (omega arith) (omega arith))
-  ]))
-]
+-- the spare bits are the run past the pairs
+module _ (n : ℕ) (edges : List ℕ) (start count : ℕ) (e : start ≡ pairCount n) (l : start + count ≡ 8 * edgeBytes n) where
+  spare-is : anyTo (λ i. bitAt edges (start + i)) count ≡ spareSet n edges
+  unfolding spareSet
+  spare-is =
+      let spare : ℕ → Bool = λ i. leb (pairCount n) i && bitAt edges i in
+      anyTo-ext (λ i. bitAt edges (start + i)) (λ i. spare (start + i)) count (λ i b. rw (le-leb (pairCount n) (start + i) (omega arith)))
+      ∙ sym (ap (anyTo spare) (sym l) ∙ anyTo-cat spare start count ∙ rw (anyTo-never spare start (λ i b. rw (lt-leb (pairCount n) i (omega arith)))))
+
+  pub spare-none : count ≡ 0 → false ≡ spareSet n edges
+  spare-none z = sym (anyTo-none _) ∙ ap (anyTo (λ i. bitAt edges (start + i))) (sym z) ∙ spare-is
+
+  pub spare-run : {run : ℕ} → run ≡ runOf edges start count → not (eqb run 0) ≡ spareSet n edges
+  spare-run q = ap (λ x. not (eqb x 0)) q ∙ ap not (run-none-set (bitAt edges) start count) ∙ Bool·not-not _ ∙ spare-is
 
 -- copied edges
-pub copied : (snapshot edges₀ : List ℕ) {edges : List ℕ} {i n : ℕ} → length snapshot ≡ 1 + length edges₀ → n ≡ length edges₀ → i ≤ n → n ≤ i
-    → edges ≡ fillTo (λ k. getD snapshot (k + 1) 0) edges₀ i → edges ≡ drop 1 snapshot
-copied snapshot edges₀ l e a b h =
-    fill-table (λ k. getD snapshot (k + 1) 0) edges₀ 0 e a b h
-    ∙ ap (tabulate (λ k. getD snapshot (k + 1) 0)) (e ∙ body)
+pub copied : (snapshot : List ℕ) (n : ℕ) → length snapshot ≡ 1 + n → tabulate (λ k. getD snapshot (k + 1) 0) n ≡ drop 1 snapshot
+copied snapshot n l =
+    let body : n ≡ length (drop 1 snapshot) = omega (arith, length-drop 1 snapshot) in
+    ap (tabulate (λ k. getD snapshot (k + 1) 0)) body
     ∙ sym (tabulate-is (λ k. getD snapshot (k + 1) 0) 0 (drop 1 snapshot) (λ k g. getD-drop 1 snapshot k 0 ∙ ap (λ m. getD snapshot m 0) (omega arith)))
-  where
-    body : length edges₀ ≡ length (drop 1 snapshot)
-    body = omega (arith, length-drop 1 snapshot)
 
 -- what a load that is accepted knows of its snapshot
 pub record Fits (n : ℕ) (snapshot : List ℕ) : Type 0 where
@@ -74,7 +77,8 @@ pub record Fits (n : ℕ) (snapshot : List ℕ) : Type 0 where
   pub long : length snapshot ≡ snapshotBytes n
   pub spare : spareSet n (snapshotEdges snapshot) ≡ false
 
-pub fits-by : (n : ℕ) (snapshot : List ℕ) (cs : List Condition) {r : ℕ} → r ≡ refusal (badSnapshot snapshot ∷ otherCount n snapshot ∷ cs) → r ≡ 0 → Fits n snapshot
+pub fits-by : (n : ℕ) (snapshot : List ℕ) (cs : List Condition) {r : ℕ} → r ≡ refusal (badSnapshot snapshot ∷ otherCount n snapshot ∷ cs) → r ≡ 0
+    → Fits n snapshot
 unfolding badSnapshot otherCount
 fits-by n snapshot cs e z =
     let a = passes (badSnapshot snapshot) _ (λ q. omega arith) (sym e ∙ z) in
@@ -128,7 +132,9 @@ module _ (edges : List ℕ) (n k : ℕ) (small : getD edges k 0 < 256) where
   -- a byte of pairs alone is copied
   pub whole-byte : 8 * suc k ≤ pairCount n → getD edges k 0 ≡ snapshotByte edges n (suc k)
   unfolding snapshotByte
-  whole-byte h = pack-is 8 (getD edges k 0) (λ j. ltb (8 * k + (7 - j)) (pairCount n) && bitAt edges (8 * k + (7 - j))) small (λ j l. sym (rw (lt-ltb (8 * k + (7 - j)) (pairCount n) (omega arith)) (byte-bit edges k j l)))
+  whole-byte h =
+      pack-is 8 (getD edges k 0) (λ j. ltb (8 * k + (7 - j)) (pairCount n) && bitAt edges (8 * k + (7 - j))) small
+      (λ j l. sym (rw (lt-ltb (8 * k + (7 - j)) (pairCount n) (omega arith)) (byte-bit edges k j l)))
 
   -- of the last byte the spare bits are left out
   pub last-byte : pairCount n < 8 * suc k → 8 * k ≤ pairCount n
@@ -137,22 +143,24 @@ module _ (edges : List ℕ) (n k : ℕ) (small : getD edges k 0 < 256) where
   last-byte h g =
       let x = getD edges k 0 in
       let s = 8 * suc k - pairCount n in
-      pack-is 8 (x / 2 ^ s * 2 ^ s) (λ j. ltb (8 * k + (7 - j)) (pairCount n) && bitAt edges (8 * k + (7 - j))) (lt-of-le-of-lt (trim-le x s) small) (λ j l. elim (decLt j s) [
+      pack-is 8 (x / 2 ^ s * 2 ^ s) (λ j. ltb (8 * k + (7 - j)) (pairCount n) && bitAt edges (8 * k + (7 - j))) (lt-of-le-of-lt (trim-le x s) small)
+      (λ j l. elim (decLt j s) [
         | yes b ↦ trim-low x s j b ∙ sym (rw (le-ltb (8 * k + (7 - j)) (pairCount n) (omega arith)))
         | no b ↦ trim-high x s j (omega arith) ∙ sym (rw (lt-ltb (8 * k + (7 - j)) (pairCount n) (omega arith)) (byte-bit edges k j l))
       ])
 
 -- built in the longest buffer, and copied out
 pub written-is : (s : State) (buffer : List ℕ) {bytes out : List ℕ} → size s ≤ maxNodes → length buffer ≡ snapshotBytes (size s)
-    → bytes ≡ fillTo (snapshotByte (s .edges) (size s)) (replicate maxSnapshot 0) (snapshotBytes (size s)) → out ≡ tabulate (λ i. getD bytes i 0) (length buffer) → out ≡ snapshotOf s
-unfolding snapshotOf
-written-is s buffer {bytes} {out} few l e q =
+    → bytes ≡ fillTo (snapshotByte (s .edges) (size s)) (replicate maxSnapshot 0) (snapshotBytes (size s)) → out ≡ padded (length buffer) bytes
+    → out ≡ snapshotOf s
+unfolding padded snapshotOf
+written-is s buffer {bytes} few l e q =
     let f = snapshotByte (s .edges) (size s) in
-    let long : snapshotBytes (size s) ≤ length (replicate {A = ℕ} maxSnapshot 0) = omega (arith, bytes-small (size s) few, length-replicate {A = ℕ} maxSnapshot 0) in
+    let long : snapshotBytes (size s) ≤ length (replicate {A = ℕ} maxSnapshot 0) =
+    omega (arith, bytes-small (size s) few, length-replicate {A = ℕ} maxSnapshot 0) in
     q ∙ ap (tabulate (λ i. getD bytes i 0)) l
-    ∙ ext-getD 0 _ _ (length-tabulate _ _ ∙ sym (length-tabulate _ _)) (λ i b.
-    let h : i < snapshotBytes (size s) = omega (arith, length-tabulate (λ i. getD bytes i 0) (snapshotBytes (size s))) in
-    getD-tabulate (λ i. getD bytes i 0) _ i 0 h ∙ ap (λ m. getD m i 0) e ∙ getD-fillTo f (replicate maxSnapshot 0) 0 _ i h long ∙ sym (getD-tabulate f _ i 0 h))
+    ∙ tabulate-ext (λ i. getD bytes i 0) f (snapshotBytes (size s))
+    (λ i h. ap (λ m. getD m i 0) e ∙ getD-fillTo f (replicate maxSnapshot 0) 0 (snapshotBytes (size s)) i h long)
 
 -- ---- how a write ends
 
@@ -164,7 +172,8 @@ module _ (s : State) (buffer : List ℕ) where
   unfolding writeCall
   write-refused {r} e d = rw (sym e, ne-eqb r 0 d)
 
-  pub write-lengths : {r : ℕ} → r ≡ refusal (stateLengths (size s) (length (s .edges)) (length (s .marks))) → (r ≡ 0 → ⊥) → written r buffer ≡ writeCall s buffer
+  pub write-lengths : {r : ℕ} → r ≡ refusal (stateLengths (size s) (length (s .edges)) (length (s .marks))) → (r ≡ 0 → ⊥)
+      → written r buffer ≡ writeCall s buffer
   unfolding lengths
   write-lengths e d = write-refused (sym (append-refused (lengths s) conditions (sym e) d)) d
 
@@ -179,7 +188,8 @@ module _ (s : State) (buffer : List ℕ) where
     module _ (l : length buffer ≡ snapshotBytes (size s)) where
       pub write-crowded : tooMany (graph s) (size s) everyone ≡ true → written 11 buffer ≡ writeCall s buffer
       write-crowded t =
-          write-refused (sym (fitted ∙ passed-length _ (snapshotBytes (size s)) (length buffer) l ∙ refused-before [] (graph s) (size s) everyone t)) (λ e. omega arith)
+          write-refused (sym (fitted ∙ passed-length _ (snapshotBytes (size s)) (length buffer) l ∙ refused-before [] (graph s) (size s) everyone t))
+          (λ e. omega arith)
 
       pub write-accepted : tooMany (graph s) (size s) everyone ≡ false → {out : List ℕ} → out ≡ snapshotOf s → written 0 out ≡ writeCall s buffer
       unfolding writeCall
@@ -188,15 +198,18 @@ module _ (s : State) (buffer : List ℕ) where
 
 -- ---- the same by the byte's place, as code has it
 
-pub first-is : (edges : List ℕ) (n i : ℕ) → n ≤ maxNodes → i ≡ 0 → (n - 1) % 256 ≡ snapshotByte edges n i
+pub first-byte-is : (edges : List ℕ) (n i : ℕ) → n ≤ maxNodes → i ≡ 0 → (n - 1) % 256 ≡ snapshotByte edges n i
 unfolding snapshotByte
-first-is edges n i few e = rw e (mod-eq-of-lt (omega arith))
+first-byte-is edges n i few e = rw e (mod-eq-of-lt (omega arith))
 
-pub whole-is : (edges : List ℕ) (n i : ℕ) {pairs : ℕ} → pairs ≡ pairCount n → Bytes edges → (i ≡ 0 → ⊥) → 8 * i ≤ pairs → getD edges (i - 1) 0 ≡ snapshotByte edges n i
-whole-is edges n zero p small d h = absurd (d refl)
-whole-is edges n (suc k) p small d h = let e : suc k - 1 ≡ k = omega arith in rw e (whole-byte edges n k (small k) (omega arith))
+pub whole-byte-is : (edges : List ℕ) (n i : ℕ) {pairs : ℕ} → pairs ≡ pairCount n → Bytes edges → (i ≡ 0 → ⊥) → 8 * i ≤ pairs
+    → getD edges (i - 1) 0 ≡ snapshotByte edges n i
+whole-byte-is edges n zero p small d h = absurd (d refl)
+whole-byte-is edges n (suc k) p small d h = let e : suc k - 1 ≡ k = omega arith in rw e (whole-byte edges n k (small k) (omega arith))
 
-pub last-is : (edges : List ℕ) (n i : ℕ) {pairs r : ℕ} → pairs ≡ pairCount n → Bytes edges → (i ≡ 0 → ⊥) → i < snapshotBytes n → pairs < 8 * i
+pub last-byte-is : (edges : List ℕ) (n i : ℕ) {pairs r : ℕ} → pairs ≡ pairCount n → Bytes edges → (i ≡ 0 → ⊥) → i < snapshotBytes n → pairs < 8 * i
     → r ≡ getD edges (i - 1) 0 / 2 ^ (8 * i - pairs) * 2 ^ (8 * i - pairs) → r ≡ snapshotByte edges n i
-last-is edges n zero p small d b h q = absurd (d refl)
-last-is edges n (suc k) p small d b h q = let e : suc k - 1 ≡ k = omega arith in (rw (e, p) at q) ∙ last-byte edges n k (small k) (omega arith) (omega arith)
+last-byte-is edges n zero p small d b h q = absurd (d refl)
+last-byte-is edges n (suc k) p small d b h q =
+    let e : suc k - 1 ≡ k = omega arith in
+    (rw (e, p) at q) ∙ last-byte edges n k (small k) (omega arith) (omega arith)

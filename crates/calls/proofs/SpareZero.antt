@@ -9,7 +9,7 @@ use borrow.Author.Tests.{le-leb}
 use lib.ListN.{length-drop}
 use Rattle.arith.proofs.Sums.{anyTo-false, length-tabulate}
 use Rattle.ego.specs.Bound.{bound}
-use Rattle.packed.proofs.BitLaws.{bit-zeros}
+use Rattle.packed.proofs.BitLaws.{bit-past, bit-zeros}
 use Rattle.packed.specs.Bits.{bitAt}
 use Rattle.packed.specs.Edges.{edge}
 use Rattle.packed.specs.Pairs.{pairCount}
@@ -17,7 +17,7 @@ use Rattle.calls.proofs.AcceptLaws.{lengths-rest, outcome-accepted, out
 use Rattle.calls.proofs.SnapshotLaws.{fits-by}
 use Rattle.calls.specs.Clear.{clearCall, cleared}
 use Rattle.calls.specs.Snapshot.{loadCall, loadConditions, loaded}
-use Rattle.state.proofs.Spare.{bit-past, exact-zero, stale-zero}
+use Rattle.state.proofs.Spare.{exact-zero, stale-zero}
 use Rattle.state.specs.Marks.{markBits}
 use Rattle.state.specs.Outcome.{lengths}
 use Rattle.state.specs.Refusal.{refusal, snapshotEdges, spareSet}

@@ -26,7 +26,7 @@ formConditions n snapshot = badSnapshot snapshot ∷ otherCount n snapshot ∷ [
 
 -- the sheet's pairs are the graph after the call
 abbrev pub loadConditions : ℕ → List ℕ → List Condition
-loadConditions n snapshot = badSnapshot snapshot ∷ otherCount n snapshot ∷ crowdedAfter (edge (snapshotEdges snapshot)) n everyone ∷ []
+loadConditions n snapshot = formConditions n snapshot ++ crowdedAfter (edge (snapshotEdges snapshot)) n everyone ∷ []
 
 unfoldable pub loadCall : State → List ℕ → Outcome
 loadCall s snapshot = outcome (lengths s ++ loadConditions (size s) snapshot) s (loaded (size s) (snapshotEdges snapshot))

@@ -1,7 +1,7 @@
 // The calls that load a snapshot and write one.
-use packed::bits::next_set;
 use packed::degrees::degrees_of;
 use packed::edges::row_start;
+use packed::runs::run_of;
 use state::crowded::any_among;
 use state::crowded::any_over;
 use state::figures::set_bounds;
@@ -16,12 +16,14 @@ use state::sizes::edge_bytes;
 use state::sizes::state_refusal;
 ghost use mathlib.Core.Path.{_≡_};
 ghost use Prim.Native.Nat.{_+_, _*_, _/_, _^_, _≤_, _<_};
-ghost use lib.ListN.{length, getD, drop, replicate};
-ghost use Rattle.arith.specs.Sums.{fillTo, tabulate};
+ghost use lib.ListN.{length, drop, replicate};
+ghost use Rattle.arith.specs.inside.Fill.{fillTo, padded};
 ghost use Rattle.packed.specs.Pairs.{maxNodes};
-ghost use Rattle.state.specs.Sizes.{edgeBytes, snapshotBytes, maxSnapshot};
+ghost use Rattle.state.specs.Sizes.{edgeBytes, snapshotBytes};
+ghost use Rattle.state.specs.inside.MaxSizes.{maxSnapshot};
 ghost use Rattle.state.specs.Refusal.{refusal, spareSet};
-ghost use Rattle.state.specs.Outcome.{left, state};
+ghost use Rattle.state.specs.Outcome.{left};
+ghost use Rattle.state.specs.Lent.{atEntry, atExit};
 ghost use Rattle.calls.specs.Snapshot.{formConditions, loadCall, snapshotByte, written, writeCall};
 
 // Whether a bit past the pairs of n nodes is set.
@@ -29,8 +31,12 @@ fn spare_set(edges: &[u8], n: usize) -> bool
     requires { ⌜ (n ≤ maxNodes) × (length (now edges) ≡ edgeBytes n) ⌝ }
     ensures { λ r. ⌜ r ≡ spareSet n (now (edges .entry)) ⌝ }
 {
-    let end = 8 * edges.len();
-    next_set(edges, row_start(n), end) < end
+    let start = row_start(n);
+    let spare = 8 * edges.len() - start;
+    if spare == 0 {
+        return false;
+    }
+    run_of(edges, start, spare) != 0
 }
 
 // Refusals 9 and 10: the snapshot's form, and its number of nodes.
@@ -67,7 +73,7 @@ fn copy_edges(edges: &mut [u8], snapshot: &[u8])
 
 // Takes the edges of a snapshot; every node takes its bound and becomes stale.
 pub fn load(edges: &mut [u8], figures: &mut [u64], marks: &mut [u8], snapshot: &[u8]) -> u64
-    ensures { λ r. ⌜ left r (now (edges .exit)) (now (figures .exit)) (now (marks .exit)) ≡ loadCall (state (now (edges .entry)) (now (figures .entry)) (now (marks .entry))) (now (snapshot .entry)) ⌝ }
+    ensures { λ r. ⌜ left r (atExit edges figures marks) ≡ loadCall (atEntry edges figures marks) (now (snapshot .entry)) ⌝ }
 {
     let n = figures.len();
     let lengths = state_refusal(n, edges.len(), marks.len());
@@ -128,7 +134,7 @@ fn build(edges: &[u8], n: usize) -> [u8; MAX_SNAPSHOT]
 // Copies the first bytes of a snapshot out.
 fn copy_out(snapshot: &mut [u8], bytes: [u8; MAX_SNAPSHOT])
     requires { ⌜ length (now snapshot) ≤ maxSnapshot ⌝ }
-    ensures { λ _. ⌜ now (snapshot .exit) ≡ tabulate (λ i. getD bytes i 0) (length (now (snapshot .entry))) ⌝ }
+    ensures { λ _. ⌜ now (snapshot .exit) ≡ padded (length (now (snapshot .entry))) bytes ⌝ }
 {
     for i in 0..snapshot.len() {
         snapshot[i] = bytes[i];
@@ -137,7 +143,7 @@ fn copy_out(snapshot: &mut [u8], bytes: [u8; MAX_SNAPSHOT])
 
 // Writes the snapshot of a state to a buffer of exactly its length.
 pub fn write(edges: &[u8], figures: &[u64], marks: &[u8], snapshot: &mut [u8]) -> u64
-    ensures { λ r. ⌜ written r (now (snapshot .exit)) ≡ writeCall (state (now (edges .entry)) (now (figures .entry)) (now (marks .entry))) (now (snapshot .entry)) ⌝ }
+    ensures { λ r. ⌜ written r (now (snapshot .exit)) ≡ writeCall (atEntry edges figures marks) (now (snapshot .entry)) ⌝ }
 {
     let n = figures.len();
     let size = state_refusal(n, edges.len(), marks.len());

@@ -1,7 +1,7 @@
 -- Figures as C lends them: 8 bytes a figure, least significant byte first. Assumes nothing.
 use mathlib.Core.List.{List}
-use Prim.Native.Nat.{ℕ, zero, suc, _+_, _*_, _/_, _%_, _^_}
-use lib.ListN.{getD, length, set}
+use Prim.Native.Nat.{ℕ, _+_, _*_, _/_, _%_, _^_}
+use lib.ListN.{getD, length}
 use Rattle.arith.specs.Sums.{sumTo, tabulate}
 
 -- the figure of node p: byte 8p + i counts 256 ^ i
@@ -9,8 +9,8 @@ unfoldable pub figureAt : List ℕ → ℕ → ℕ
 figureAt bytes p = sumTo (λ i. getD bytes (8 * p + i) 0 * 256 ^ i) 8
 
 -- n figures of bytes
-unfoldable pub figuresOf : ℕ → List ℕ → List ℕ
-figuresOf n bytes = tabulate (figureAt bytes) n
+unfoldable pub decoded : ℕ → List ℕ → List ℕ
+decoded n bytes = tabulate (figureAt bytes) n
 
 -- byte i of a number
 unfoldable pub byteOf : ℕ → ℕ → ℕ
@@ -21,13 +21,5 @@ unfoldable pub byteAt : List ℕ → ℕ → ℕ
 byteAt figures k = byteOf (getD figures (k / 8) 0) (k % 8)
 
 -- figures as bytes
-unfoldable pub bytesOf : List ℕ → List ℕ
-bytesOf figures = tabulate (byteAt figures) (8 * length figures)
-
--- bytes with x for the figure of node p: the first i bytes of it are written
-abbrev pub withBytes : List ℕ → ℕ → ℕ → ℕ → List ℕ
-withBytes bytes p x zero = bytes
-withBytes bytes p x (suc i) = set (withBytes bytes p x i) (8 * p + i) (byteOf x i)
-
-unfoldable pub withFigure : List ℕ → ℕ → ℕ → List ℕ
-withFigure bytes p x = withBytes bytes p x 8
+unfoldable pub encoded : List ℕ → List ℕ
+encoded figures = tabulate (byteAt figures) (8 * length figures)

@@ -2,4 +2,5 @@ pub mod NoLinks
 pub mod Reflect
 pub mod Sentences
 pub mod Table
+pub mod Tables
 pub mod Wrong

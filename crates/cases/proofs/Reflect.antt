@@ -51,18 +51,18 @@ everywhere {P} f r n = record { holds = λ e p l. r p .holds (each-at f n p e l)
 
 module _ {A : Type 0} (same : A → A → Bool) where
   -- element by element
-  abbrev pub alike : List A → List A → Bool
-  alike [] [] = true
-  alike [] (y ∷ ys) = false
-  alike (x ∷ xs) [] = false
-  alike (x ∷ xs) (y ∷ ys) = same x y && alike xs ys
+  abbrev pub sameLists : List A → List A → Bool
+  sameLists [] [] = true
+  sameLists [] (y ∷ ys) = false
+  sameLists (x ∷ xs) [] = false
+  sameLists (x ∷ xs) (y ∷ ys) = same x y && sameLists xs ys
 
-  pub lists : ((x y : A) → Reflects (x ≡ y) (same x y)) → (xs ys : List A) → Reflects (xs ≡ ys) (alike xs ys)
+  pub lists : ((x y : A) → Reflects (x ≡ y) (same x y)) → (xs ys : List A) → Reflects (xs ≡ ys) (sameLists xs ys)
   lists r [] [] = record { holds = λ e. refl; fails = λ e p. true≢false e }
   lists r [] (y ∷ ys) = record { holds = λ e. absurd (true≢false (sym e)); fails = λ e p. nil≢cons p }
   lists r (x ∷ xs) [] = record { holds = λ e. absurd (true≢false (sym e)); fails = λ e p. cons≢nil p }
   lists r (x ∷ xs) (y ∷ ys) =
-      let h = both (same x y) (alike xs ys) (r x y) (lists r xs ys) in
+      let h = both (same x y) (sameLists xs ys) (r x y) (lists r xs ys) in
       record {
         holds = λ e. let t = h .holds e in ap₂ (λ a l. a ∷ l) (t .0) (t .1);
         fails = λ e p. h .fails e (head-eq-of-cons-eq p, tail-eq-of-cons-eq p);

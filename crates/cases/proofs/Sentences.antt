@@ -6,14 +6,15 @@ use Prim.Native.Nat.{ℕ}
 use lib.Dec.{eqb, leb}
 use Rattle.arith.proofs.Tests.{each}
 use Rattle.arith.specs.Sums.{countTo}
-use Rattle.cases.proofs.Reflect.{alike, always, bits, both, everywhere, lists, numbers, orders, Reflects, said-as, whenever}
+use Rattle.cases.proofs.Reflect.{always, bits, both, everywhere, lists, numbers, orders, Reflects, said-as, sameLists, whenever}
 use Rattle.ego.specs.Graph.{Graph}
 use Rattle.ego.specs.Score.{score}
-use Rattle.history.specs.History.{best, edits, Effect, firstK, holding, links, nodes, OfEdit, OfList, others, out, refusal, Says, Sentence, settled, settles, stale, worked}
+use Rattle.history.specs.History.{edits, Effect, filledWith, firstK, firstOf, links, nodes, OfEdit, OfList, others, refusal, Says, Sentence, settled, settles, stale, worked}
 use Rattle.history.specs.Model.{add, asRecords, Call, clear, Entries, inRow, list, load, model, modelRefusal, reconcile, remove, room}
 use Rattle.state.specs.Refusal.{touched}
 use Rattle.state.specs.State.{figure, graph, isStale, size, State}
 use Rattle.topk.specs.declared.entries.Entry.{Entry}
+use Rattle.topk.specs.Ranking.{worksOut}
 
 -- ---- entries that are the same
 
@@ -26,10 +27,10 @@ entry-same x y = said-as {P = (x .node ≡ y .node) × (x .figure ≡ y .figure)
     (both _ _ (numbers (x .node) (y .node)) (numbers (x .figure) (y .figure)))
 
 abbrev sameEntries : Entries → Entries → Bool
-sameEntries (inRow xs) (inRow ys) = alike eqb xs ys
+sameEntries (inRow xs) (inRow ys) = sameLists eqb xs ys
 sameEntries (inRow xs) (asRecords ys) = false
 sameEntries (asRecords xs) (inRow ys) = false
-sameEntries (asRecords xs) (asRecords ys) = alike sameEntry xs ys
+sameEntries (asRecords xs) (asRecords ys) = sameLists sameEntry xs ys
 
 abbrev inARow : Entries → Bool
 inARow (inRow xs) = true
@@ -90,7 +91,7 @@ of-edit (list entries scratch) f r = always
 module _ (n : ℕ) (s : State) (g : Graph) (call : Call) (e : Effect) where
   -- a list that is lent the entries works p out
   abbrev chosen : Entries → ℕ → Bool
-  chosen entries p = out s (best n g (room entries)) p
+  chosen entries = worksOut (s .figures) (s .marks) (firstOf n g (room entries))
 
   -- p's mark is `mark`, and its figure `value`
   abbrev became : Bool → ℕ → ℕ → Bool
@@ -104,10 +105,11 @@ module _ (n : ℕ) (s : State) (g : Graph) (call : Call) (e : Effect) where
   tested settled = each (λ p. not (Bool·beq (isStale (e .after) p) false) || eqb (figure (e .after) p) (score (model n g call) n p)) n
   tested stale = each (λ p. not (Bool·beq (isStale (e .after) p) true) || leb (score (model n g call) n p) (figure (e .after) p)) n
   tested refusal = eqb (e .answer) (modelRefusal n g call)
-  tested firstK = ofList call (λ entries. not (eqb (e .answer) 0) || sameEntries (e .entries) (holding (best n g (room entries)) entries))
+  tested firstK = ofList call (λ entries. not (eqb (e .answer) 0) || sameEntries (e .entries) (filledWith (firstOf n g (room entries)) entries))
   tested worked = ofList call (λ entries. not (eqb (e .answer) 0) || eqb (e .recomputed) (countTo (chosen entries) n))
   tested settles = ofList call (λ entries. not (eqb (e .answer) 0) || each (λ p. not (Bool·beq (chosen entries p) true) || became false (score g n p) p) n)
-  tested others = ofList call (λ entries. not (eqb (e .answer) 0) || each (λ p. not (Bool·beq (chosen entries p) false) || became (isStale s p) (figure s p) p) n)
+  tested others = ofList call (λ entries. not (eqb (e .answer) 0)
+      || each (λ p. not (Bool·beq (chosen entries p) false) || became (isStale s p) (figure s p) p) n)
   tested edits = ofEdit call (λ a b. each (λ p. not (Bool·beq (touched g a b p) false) || became (isStale s p) (figure s p) p) n)
   tested nodes = eqb (size (e .after)) n
 

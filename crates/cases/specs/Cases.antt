@@ -8,11 +8,10 @@ use Rattle.ego.specs.Limits.{unit}
 use Rattle.ego.specs.Score.{score}
 use Rattle.state.specs.Sizes.{edgeBytes}
 use Rattle.state.specs.Marks.{markBytes}
-use Rattle.state.specs.State.{State, graph}
-use Rattle.state.specs.Outcome.{state}
+use Rattle.state.specs.State.{State, graph, state}
 use Rattle.topk.specs.List.{listCall}
 use Rattle.history.specs.Model.{Call, clear, add, remove, reconcile}
-use Rattle.history.specs.History.{after}
+use Rattle.history.specs.History.{stateAfter}
 
 -- The calls after a clear, on n nodes; then the link bytes, each node's score, and the entry of a list of one.
 pub record Case : Type 0 where
@@ -20,7 +19,7 @@ pub record Case : Type 0 where
   pub calls : List Call
   pub edges : List ℕ
   pub scores : List ℕ
-  pub listed : List ℕ
+  pub top : List ℕ
 
 -- a state of the right lengths that holds anything
 abbrev pub unclean : ℕ → State
@@ -28,16 +27,16 @@ unclean n = state (replicate (edgeBytes n) 255) (replicate n 7) (replicate (mark
 
 unfoldable pub run : State → List Call → State
 run s [] = s
-run s (call ∷ calls) = run (after s call) calls
+run s (call ∷ calls) = run (stateAfter s call) calls
 
-abbrev pub reached : Case → State
-reached c = run (unclean (c .nodes)) (clear ∷ c .calls)
+abbrev pub stateReached : Case → State
+stateReached c = run (unclean (c .nodes)) (clear ∷ c .calls)
 
 -- what must come out
 pub record Meets (c : Case) : Type 0 where
-  pub edgesAre : reached c .edges ≡ c .edges
-  pub scoresAre : tabulate (score (graph (reached c)) (c .nodes)) (c .nodes) ≡ c .scores
-  pub listedAre : listCall (reached c) (9 ∷ 9 ∷ []) (replicate (c .nodes) 9) .entries ≡ c .listed
+  pub edgesAre : stateReached c .edges ≡ c .edges
+  pub scoresAre : tabulate (score (graph (stateReached c)) (c .nodes)) (c .nodes) ≡ c .scores
+  pub topIs : listCall (stateReached c) (9 ∷ 9 ∷ []) (replicate (c .nodes) 9) .entries ≡ c .top
 
 abbrev pub half : ℕ
 half = 36100888223400
@@ -52,7 +51,7 @@ document =
     add 0 1 ∷ add 0 2 ∷ add 1 2 ∷ add 2 3 ∷ add 2 4 ∷ add 3 5 ∷ add 4 5 ∷ []
 
 abbrev pub case : ℕ → List Call → List ℕ → List ℕ → List ℕ → Case
-case nodes calls edges scores listed = record { nodes = nodes; calls = calls; edges = edges; scores = scores; listed = listed }
+case nodes calls edges scores top = record { nodes = nodes; calls = calls; edges = edges; scores = scores; top = top }
 
 abbrev pub table : List Case
 table =
@@ -72,7 +71,7 @@ table =
     case 3 (add 0 1 ∷ []) (0x80 ∷ []) (0 ∷ 0 ∷ 0 ∷ []) (0 ∷ 0 ∷ []) ∷
     case 3 (add 0 1 ∷ add 1 2 ∷ []) (0xA0 ∷ []) (0 ∷ unit ∷ 0 ∷ []) (1 ∷ unit ∷ []) ∷
     -- Document 000, Example 1: 14/3, or 336,941,623,418,400.
-    case 7 document (0xE4 ∷ 0x87 ∷ 0xF8 ∷ []) (0 ∷ 0 ∷ 180504441117000 ∷ 36100888223400 ∷ 36100888223400 ∷ 36100888223400 ∷ 336941623418400 ∷ []) (6 ∷ 336941623418400 ∷ []) ∷
+    case 7 document (0xE4 ∷ 0x87 ∷ 0xF8 ∷ []) (0 ∷ 0 ∷ 180504441117000 ∷ half ∷ half ∷ half ∷ 336941623418400 ∷ []) (6 ∷ 336941623418400 ∷ []) ∷
     -- Original 0–1; mine also has 0–2; theirs has none: only 0–2 stays.
     case 3 (add 0 1 ∷ add 0 2 ∷ reconcile (0x00 ∷ []) (0x80 ∷ []) ∷ []) (0x40 ∷ []) (0 ∷ 0 ∷ 0 ∷ []) (0 ∷ 0 ∷ []) ∷
     []

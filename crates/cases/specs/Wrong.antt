@@ -7,8 +7,7 @@ use lib.ListN.{set}
 use Rattle.ego.specs.Graph.{Graph}
 use Rattle.ego.specs.Limits.{unit}
 use Rattle.state.specs.Marks.{withMark}
-use Rattle.state.specs.State.{State}
-use Rattle.state.specs.Outcome.{state}
+use Rattle.state.specs.State.{State, state}
 use Rattle.topk.specs.Entries.{entry}
 use Rattle.history.specs.Model.{Call, clear, load, add, remove, list, Entries, inRow, asRecords, noPairs, model}
 use Rattle.history.specs.History.{Effect, effect, Sentence, links, settled, stale, refusal, firstK, worked, settles, others, edits, nodes, Says}

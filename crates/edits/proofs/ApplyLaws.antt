@@ -1,213 +1,253 @@
--- What an edit writes, from the list of the nodes that it touches and from their degrees. Assumes nothing.
-use mathlib.Core.Bool.{_&&_, Bool, cond, false, or-true, true, true≢false, _||_}
+-- What an edit writes and when it turns back, from the list of the nodes that it touches and from their degrees. Assumes nothing.
+use mathlib.Core.Bool.{Bool, cond, false, true, true≢false}
 use mathlib.Core.List.{_++_, [], List, _∷_}
-use mathlib.Core.Logic.{inl, inr}
-use mathlib.Core.Path.{ap, ap₂, subst, sym, _∙_, _≡_}
-use Prim.Native.Nat.{_+_, _-_, _<_, ℕ, _≤_}
+use mathlib.Core.Logic.{inl, inr, _≢_}
+use mathlib.Core.Path.{ap, refl, sym, _∙_, _≡_}
+use Prim.Native.Nat.{_+_, _<_, ℕ, _≤_}
 use native.Mathlib.Decide.{decLt, ℕ-discrete}
 use native.Mathlib.Omega.{arith}
-use borrow.Author.Tests.{le-leb, leb-false, lt-leb}
-use lib.Dec.{leb, ltb}
-use lib.ListN.{getD, length, length-set, set}
-use lib.Seq.{getD-set-other, getD-set-same}
-use Rattle.arith.proofs.Sums.{countTo-ext, countTo-le}
-use Rattle.arith.proofs.Tests.{and-true, or-false-both, test}
-use Rattle.arith.specs.Sums.{anyTo}
-use Rattle.ego.proofs.FoundLaws.{degree-is}
-use Rattle.ego.specs.Graph.{degree, Graph}
-use Rattle.ego.specs.Limits.{limit}
-use Rattle.packed.proofs.EdgeLaws.{edge-self, edge-with-other, length-with-edge}
-use Rattle.packed.specs.Bits.{Bytes}
-use Rattle.packed.specs.Edges.{edge, withEdge}
-use Rattle.packed.specs.Pairs.{maxNodes, Room}
-use Rattle.edits.proofs.ListedLaws.{bound-each-is, Degrees, listed-ends, listed-touched, over-is, stale-each-is, Touched}
+use borrow.Author.Tests.{le-ltb, lt-ltb}
+use lib.Dec.{ltb}
+use lib.ListN.{getD, length}
+use Rattle.arith.proofs.Sums.{anyTo-here, anyTo-never, bit-le, countTo-le}
+use Rattle.arith.proofs.Tests.{test}
+use Rattle.arith.specs.Sums.{anyTo, bit, countTo}
+use Rattle.calls.proofs.AcceptLaws.{lengths-pass}
 use Rattle.calls.proofs.OutcomeLaws.{state-is}
-use Rattle.edits.proofs.PairRefusals.{accepted-nodes, first-full, first-gains, first-loses, Nodes, not-full, pair-append, pairConditions, second-full, second-gains, second-loses}
-use Rattle.state.proofs.RefusalLaws.{passed-absent, passed-before, passed-present, refusal-none, refused-absent, refused-before, refused-present}
-use Rattle.edits.specs.Edit.{addConditions, added, Editable, edited, removeConditions, removed, renewed}
-use Rattle.state.specs.Marks.{markBytes, staleTo}
-use Rattle.state.specs.Outcome.{state}
-use Rattle.state.specs.Refusal.{crowdedAfter, crowdedBefore, edgeAbsent, edgePresent, ends, refusal, tooMany, touched}
-use Rattle.state.specs.State.{graph, size, State}
-use Rattle.edits.specs.Touched.{boundEach, maxTouched, staleEach}
+use Rattle.ego.proofs.FoundLaws.{degree-is}
+use Rattle.ego.specs.Graph.{degree}
+use Rattle.ego.specs.Limits.{limit}
+use Rattle.packed.proofs.DegreeLaws.{length-degrees}
+use Rattle.packed.proofs.EdgeLaws.{edge-self}
+use Rattle.packed.proofs.ShiftLaws.{first-moved, other-kept, second-moved, shiftable, shifted-degrees, shifted-first, shifted-other, shifted-second}
+use Rattle.packed.specs.inside.Bytes.{Bytes}
+use Rattle.packed.specs.Pairs.{maxNodes}
+use Rattle.packed.specs.Edges.{edge}
+use Rattle.packed.specs.inside.Degrees.{degreesOf, moved, shifted, Shiftable}
+use Rattle.state.proofs.DegreeLaws.{degree-of, within-by}
+use Rattle.state.proofs.RefusalLaws.{Fitted, passed-after, passed-before, refusal-none, refused-after, refused-before}
+use Rattle.state.proofs.TouchLaws.{touched-first}
+use Rattle.state.specs.Marks.{markBytes}
+use Rattle.state.specs.Outcome.{lengths, outcome}
+use Rattle.state.specs.State.{state, graph, size, State}
+use Rattle.state.specs.Refusal.{Condition, crowdedAfter, ends, refusal, tooMany, touched}
+use Rattle.edits.proofs.EditLaws.{changed-is, renewing}
+use Rattle.edits.proofs.ListedLaws.{bound-each-is, count-two, each-at, each-length, first-is, listed, listed-ends, listed-touched, node-below, node-common, over-is, second-is, stale-each-is}
+use Rattle.edits.specs.inside.Change.{changed, after, Changeable, crowding, Editable, Steppable}
+use Rattle.edits.specs.Edit.{edited}
+use Rattle.edits.specs.inside.Touched.{Among, boundEach, Lists, maxTouched, ofEach, staleEach}
+use Rattle.edits.specs.declared.touched.Touched.{Touched}
 
 -- ---- what is written
 
-module _ (s : State) (a b : ℕ) where
-  added-is : {edges figures marks : List ℕ} → edges ≡ withEdge (s .edges) a b true → figures ≡ renewed (edge edges) (s .figures) (ends a b) → marks ≡ staleTo (touched (graph s) a b) (s .marks) (size s)
-      → state edges figures marks ≡ added s a b
-  unfolding added edited
-  added-is e f m = state-is e (f ∙ ap (λ l. renewed (edge l) (s .figures) (ends a b)) e) m
+renewed-within : (on : Bool) {k count : ℕ} → k ≡ cond on 2 count → 2 ≤ count → k ≤ count
+renewed-within true e h = omega arith
+renewed-within false e h = omega arith
 
-  removed-is : {edges figures marks : List ℕ} → edges ≡ withEdge (s .edges) a b false → figures ≡ renewed (edge edges) (s .figures) (touched (graph s) a b) → marks ≡ staleTo (touched (graph s) a b) (s .marks) (size s)
-      → state edges figures marks ≡ removed s a b
-  unfolding removed edited
-  removed-is e f m = state-is e (f ∙ ap (λ l. renewed (edge l) (s .figures) (touched (graph s) a b)) e) m
+module _ {s : State} {a b : ℕ} {on : Bool} {t : Touched} {degrees : List ℕ} (e : Editable s a b on t degrees) where
+  below : (i : ℕ) → i < t .count → getD (t .nodes) i 0 < size s
+  below = node-below (e .listed) (e .pair .firstBelow) (e .pair .secondBelow)
 
-pub room-kept : (a b : ℕ) (on : Bool) {n : ℕ} {es next : List ℕ} → next ≡ withEdge es a b on → Room n es → Room n next
-room-kept a b on {es = es} e r = record { few = r .few; bits = omega (arith, r .bits, ap length e, length-with-edge es a b on) }
+  pub mark-ready : Among (t .nodes) (t .count) maxNodes × ((i : ℕ) → i < t .count → markBytes (getD (t .nodes) i 0 + 1) ≤ length (s .marks))
+  mark-ready = (
+    record { few = e .listed .few; small = omega arith; below = λ i h. omega (arith, below i h, e .pair .room .few) },
+    λ i h. omega (arith, below i h, e .pair .marked),
+  )
 
--- how many of the touched nodes take their bounds
-pub renewed-within : (on : Bool) {k count : ℕ} → k ≡ cond on 2 count → 2 ≤ count → (2 ≤ k) × (k ≤ count)
-renewed-within true e h = (omega arith, omega arith)
-renewed-within false e h = (omega arith, omega arith)
+  module _ {k : ℕ} (l : k ≡ cond on 2 (t .count)) where
+    fewer : k ≤ t .count
+    fewer = renewed-within on l (count-two (e .listed))
 
-module _ {s : State} {a b : ℕ} {nodes : List ℕ} {count : ℕ} (e : Editable s a b) (t : Touched (s .edges) (size s) a b nodes count) where
-  pub mark-ready : (count ≤ maxTouched) × ((i : ℕ) → i < count → (getD nodes i 0 < maxNodes) × (markBytes (getD nodes i 0 + 1) ≤ length (s .marks)))
-  mark-ready = (t .few, λ i h. (omega (arith, t .below i h, e .room .few), omega (arith, t .below i h, e .marked)))
+    pub bound-ready : Among (t .nodes) k (size s) × ((i : ℕ) → i < k → getD degrees i 0 ≤ limit)
+    bound-ready = (
+      record { few = omega (arith, e .listed .few, fewer); small = e .pair .room .few; below = λ i h. below i (omega (arith, fewer)) },
+      λ i h. e .within i (omega (arith, fewer)),
+    )
 
-  pub bound-ready : {g : Graph} {degrees : List ℕ} {j k : ℕ} → j ≤ k → k ≤ count → Degrees g (size s) nodes degrees k
-      → (j ≤ maxTouched) × ((i : ℕ) → i < j → (getD nodes i 0 < size s) × (getD degrees i 0 ≤ maxNodes))
-  bound-ready {g} l m d =
-      (omega (arith, d .few), λ i h. (t .below i (omega arith), omega (arith, d .each i (omega arith), degree-is g (size s) (getD nodes i 0), countTo-le (g (getD nodes i 0)) (size s), e .room .few)))
+    renewed-are : (p : ℕ) → p < size s → listed (t .nodes) k p ≡ renewing (graph s) a b on p
+    renewed-are p h =
+        ap (λ m. listed (t .nodes) m p) l ∙ elim (test on) [
+          | inl q ↦ rw q (listed-ends (e .listed) p)
+          | inr q ↦ rw q (listed-touched (e .listed) p h)
+        ]
 
-  module _ (bytes : Bytes (s .marks)) {marks : List ℕ} (m : marks ≡ staleEach nodes (s .marks) count) where
-    marks-are : marks ≡ staleTo (touched (graph s) a b) (s .marks) (size s)
-    marks-are = m ∙ stale-each-is nodes (s .marks) (size s) (omega (arith, e .marked)) (touched (graph s) a b) count bytes (t .below) (listed-touched t)
+    pub changed-by : Bytes (s .marks) → {edges figures marks : List ℕ} → edges ≡ after s a b on → marks ≡ staleEach (t .nodes) (s .marks) (t .count)
+        → figures ≡ boundEach (t .nodes) degrees (s .figures) k → state edges figures marks ≡ changed s a b on
+    unfolding edited
+    changed-by bytes q m f =
+        state-is q
+        (f ∙ bound-each-is (edge (after s a b on)) (t .nodes) degrees (s .figures) (renewing (graph s) a b on) k
+        (λ i h. below i (omega (arith, fewer))) (λ i h. e .counted i (omega (arith, fewer))) renewed-are)
+        (m ∙ stale-each-is (t .nodes) (s .marks) (size s) (omega (arith, e .pair .marked)) (touched (graph s) a b) (t .count) bytes below
+        (listed-touched (e .listed)))
+        ∙ sym (changed-is s a b on)
 
-    pub added-by : {edges degrees figures : List ℕ} → edges ≡ withEdge (s .edges) a b true → Degrees (edge edges) (size s) nodes degrees 2
-        → figures ≡ boundEach nodes degrees (s .figures) 2 → state edges figures marks ≡ added s a b
-    added-by {edges} {degrees} q d f =
-        added-is s a b q
-        (f ∙ bound-each-is (edge edges) nodes degrees (s .figures) (ends a b) 2 (λ i h. t .below i (omega (arith, t .two))) d (λ p h. listed-ends t p))
-        marks-are
+-- ---- when it turns back
 
-    pub removed-by : {edges degrees figures : List ℕ} → edges ≡ withEdge (s .edges) a b false → Degrees (edge edges) (size s) nodes degrees count
-        → figures ≡ boundEach nodes degrees (s .figures) count → state edges figures marks ≡ removed s a b
-    removed-by {edges} {degrees} q d f =
-        removed-is s a b q
-        (f ∙ bound-each-is (edge edges) nodes degrees (s .figures) (touched (graph s) a b) count (t .below) d (listed-touched t))
-        marks-are
+module _ {s : State} {a b : ℕ} {on : Bool} (c : Changeable s a b on) where
+  -- 11 where the first end has too many edges
+  pub first-crowded : limit < degree (graph s) (size s) a → 11 ≡ refusal (crowding s a b on)
+  unfolding tooMany
+  first-crowded h =
+      sym (refused-before _ (graph s) (size s) _
+      (anyTo-here _ (size s) a (c .firstBelow) (rw (touched-first (graph s) a b a refl) (lt-ltb limit _ h))))
 
-    pub applied-by : (on : Bool) {edges degrees figures : List ℕ} {k : ℕ} → edges ≡ withEdge (s .edges) a b on → k ≡ cond on 2 count → Degrees (edge edges) (size s) nodes degrees k
-        → figures ≡ boundEach nodes degrees (s .figures) k → state edges figures marks ≡ cond on (added s a b) (removed s a b)
-    applied-by true {edges} {degrees} q l d f = added-by q (subst (Degrees (edge edges) (size s) nodes degrees) l d) (f ∙ ap (boundEach nodes degrees (s .figures)) l)
-    applied-by false {edges} {degrees} q l d f = removed-by q (subst (Degrees (edge edges) (size s) nodes degrees) l d) (f ∙ ap (boundEach nodes degrees (s .figures)) l)
+  -- the degrees of the ends after the edit
+  abbrev Moves : ℕ → Type 0
+  Moves p = (countTo (edge (after s a b on) p) (size s) ≡ moved on (countTo (graph s p) (size s))) × (0 < countTo (graph s p) (size s) + bit on)
 
--- ---- an edit whose pair is accepted
+  first-after : Moves a
+  first-after = first-moved (s .edges) (size s) a b on (c .apart) (c .firstBelow) (c .secondBelow) (c .room) (c .was)
 
-pub record Pair (g : Graph) (n a b : ℕ) (linked : Bool) : Type 0 where
-  pub nodes : Nodes n a b
-  pub is : g a b ≡ linked
+  second-after : Moves b
+  second-after = second-moved (s .edges) (size s) a b on (c .apart) (c .firstBelow) (c .secondBelow) (c .room) (c .was)
 
--- from what `add_refusal` answers, and `remove_refusal`
-pub absent-by : {g : Graph} {n a b r : ℕ} → r ≡ refusal (pairConditions n a b ++ edgePresent g a b ∷ []) → r ≡ 0 → Pair g n a b false
-absent-by {g} {n} {a} {b} e z =
-    let p = accepted-nodes n a b (edgePresent g a b ∷ []) e z in
-    elim (test (g a b)) [
-      | inl t ↦ absurd (omega (arith, e, z, pair-append n a b (edgePresent g a b ∷ []) p, refused-present [] g a b t))
-      | inr t ↦ record { nodes = p; is = t }
-    ]
+  module _ {t : Touched} {before : List ℕ} (e : Lists (graph s) (size s) a b t)
+      (d : before ≡ ofEach (degree (graph s) (size s)) (t .nodes) (t .count)) where
+    each : (i : ℕ) → i < t .count → getD before i 0 ≡ degree (graph s) (size s) (getD (t .nodes) i 0)
+    each = each-at (degree (graph s) (size s)) (t .nodes) (t .count) d (e .few)
 
-pub present-by : {g : Graph} {n a b r : ℕ} → r ≡ refusal (pairConditions n a b ++ edgeAbsent g a b ∷ []) → r ≡ 0 → Pair g n a b true
-present-by {g} {n} {a} {b} e z =
-    let p = accepted-nodes n a b (edgeAbsent g a b ∷ []) e z in
-    elim (test (g a b)) [
-      | inl t ↦ record { nodes = p; is = t }
-      | inr t ↦ absurd (omega (arith, e, z, pair-append n a b (edgeAbsent g a b ∷ []) p, refused-absent [] g a b t))
-    ]
+    two : 2 ≤ t .count
+    two = count-two e
 
-not-crowded : (x y : Bool) {r : ℕ} → r ≡ refusal ((11, x) ∷ (12, y) ∷ []) → r ≡ 0 → (x ≡ false) × (y ≡ false)
-unfolding refusal
-not-crowded x y e z = elim (test x) [
-  | inl t ↦ let q = sym e ∙ z in absurd (omega (arith, rw t at q))
-  | inr t ↦ elim (test y) [
-    | inl u ↦ let q = sym e ∙ z in absurd (omega (arith, rw (t, u) at q))
-    | inr u ↦ (t, u)
-  ]
-]
+    long : length before ≡ maxTouched
+    long = each-length (degree (graph s) (size s)) (t .nodes) (t .count) d
 
-module _ {es nodes degrees : List ℕ} {n a b count : ℕ} (room : Room n es) (t : Touched es n a b nodes count) (d : Degrees (edge es) n nodes degrees count) where
-  first-is : getD degrees 0 0 ≡ degree (edge es) n a
-  first-is = d .each 0 (omega (arith, t .two)) ∙ ap (degree (edge es) n) (t .first)
+    first-degree : getD before 0 0 ≡ countTo (graph s a) (size s)
+    first-degree = each 0 (omega (arith, two)) ∙ ap (degree (graph s) (size s)) (first-is e) ∙ degree-is (graph s) (size s) a
 
-  second-is : getD degrees 1 0 ≡ degree (edge es) n b
-  second-is = d .each 1 (omega (arith, t .two)) ∙ ap (degree (edge es) n) (t .second)
+    second-degree : getD before 1 0 ≡ countTo (graph s b) (size s)
+    second-degree = each 1 (omega (arith, two)) ∙ ap (degree (graph s) (size s)) (second-is e) ∙ degree-is (graph s) (size s) b
 
-  -- the degrees after the edit: those of the ends change
-  module _ (x y : ℕ) {next : List ℕ} (e : next ≡ set (set degrees 0 x) 1 y) where
-    next-first : getD next 0 0 ≡ x
-    next-first = ap (λ l. getD l 0 0) e ∙ getD-set-other (set degrees 0 x) 1 0 y 0 (λ q. omega arith) ∙ getD-set-same degrees 0 x 0 (omega (arith, d .room))
+    pub shift-ready : Shiftable before 0 1 on
+    shift-ready = record {
+      firstBelow = omega (arith, long);
+      secondBelow = omega (arith, long);
+      firstSome = omega (arith, first-degree, first-after .1);
+      secondSome = omega (arith, second-degree, second-after .1);
+      firstFits = omega (arith, first-degree, countTo-le (graph s a) (size s), bit-le on, c .room .few);
+      secondFits = omega (arith, second-degree, countTo-le (graph s b) (size s), bit-le on, c .room .few);
+    }
 
-    next-second : getD next 1 0 ≡ y
-    next-second = ap (λ l. getD l 1 0) e ∙ getD-set-same (set degrees 0 x) 1 y 0 (omega (arith, d .room, length-set degrees 0 x))
+    -- 11
+    over-before : anyTo (λ i. ltb limit (getD before i 0)) (t .count) ≡ tooMany (graph s) (size s) (touched (graph s) a b)
+    over-before =
+        over-is (graph s) (size s) (touched (graph s) a b) (t .nodes) before (t .count)
+        (node-below e (c .firstBelow) (c .secondBelow)) (listed-touched e) each
 
-    next-room : length next ≡ maxTouched
-    next-room = ap length e ∙ length-set (set degrees 0 x) 1 y ∙ length-set degrees 0 x ∙ d .room
+    module _ {x : Bool} (f : x ≡ anyTo (λ i. ltb limit (getD before i 0)) (t .count)) where
+      pub before-crowded : x ≡ true → 11 ≡ refusal (crowding s a b on)
+      before-crowded z = sym (refused-before _ (graph s) (size s) _ (sym over-before ∙ sym f ∙ z))
 
-    next-other : (i : ℕ) → 2 ≤ i → getD next i 0 ≡ getD degrees i 0
-    next-other i h = ap (λ l. getD l i 0) e ∙ getD-set-other (set degrees 0 x) 1 i y 0 (λ q. omega arith) ∙ getD-set-other degrees 0 i x 0 (λ q. omega arith)
+      -- the degrees after it
+      module _ (z : x ≡ false) {next : List ℕ} (q : next ≡ shifted before 0 1 on) where
+        end-moved : (i : ℕ) → i < 2 → getD next i 0 ≡ moved on (getD before i 0)
+        end-moved i h = ap (λ l. getD l i 0) q ∙ elim (ℕ-discrete i 0) [
+          | yes p ↦ rw p (shifted-first before 0 1 on (omega arith) (omega (arith, long)))
+          | no m ↦ let p : i ≡ 1 = omega arith in rw p (shifted-second before 0 1 on (omega (arith, long)))
+        ]
 
-  module _ (p : Pair (edge es) n a b false) where
-    -- 12, from the degrees before
-    full-is : leb limit (getD degrees 0 0) || leb limit (getD degrees 1 0) ≡ tooMany (edge (withEdge es a b true)) n (ends a b)
-    full-is = elim (decLt (getD degrees 0 0) limit) [
-      | no h ↦ rw (le-leb limit (getD degrees 0 0) (omega arith)) (sym (first-full es n a b (p .nodes) room (p .is) (omega (arith, first-is))))
-      | yes h ↦ elim (decLt (getD degrees 1 0) limit) [
-        | no k ↦ rw (le-leb limit (getD degrees 1 0) (omega arith), or-true (leb limit (getD degrees 0 0))) (sym (second-full es n a b (p .nodes) room (p .is) (omega (arith, second-is))))
-        | yes k ↦ rw (lt-leb limit (getD degrees 0 0) h, lt-leb limit (getD degrees 1 0) k) (sym (not-full es n a b (p .nodes) room (p .is) (omega (arith, first-is)) (omega (arith, second-is))))
-      ]
-    ]
+        common-kept : (i : ℕ) → 2 ≤ i → getD next i 0 ≡ getD before i 0
+        common-kept i h = ap (λ l. getD l i 0) q ∙ shifted-other before 0 1 on i (omega arith) (omega arith)
 
-    pub add-refused : {r : ℕ} → r ≡ refusal ((11, anyTo (λ i. ltb limit (getD degrees i 0)) count) ∷ (12, leb limit (getD degrees 0 0) || leb limit (getD degrees 1 0)) ∷ [])
-        → r ≡ refusal (addConditions n (edge es) (edge (withEdge es a b true)) a b)
-    unfolding crowdedBefore crowdedAfter
-    add-refused e =
-        e ∙ ap₂ (λ x y. refusal ((11, x) ∷ (12, y) ∷ [])) (over-is t degrees d) full-is
-        ∙ sym (pair-append n a b _ (p .nodes) ∙ passed-present _ (edge es) a b (p .is))
+        each-after : (i : ℕ) → i < t .count → getD next i 0 ≡ degree (edge (after s a b on)) (size s) (getD (t .nodes) i 0)
+        each-after i h = elim (decLt i 2) [
+          | no l ↦
+              let p = getD (t .nodes) i 0 in
+              let r = node-common e i (omega arith) h in
+              common-kept i (omega arith) ∙ each i h ∙ degree-is (graph s) (size s) p
+              ∙ sym (other-kept (s .edges) (size s) a b on (c .apart) (c .firstBelow) (c .secondBelow) (c .room) (c .was) p
+              (λ y. true≢false (sym (r .first) ∙ edge-self (s .edges) a p (sym y))) (λ y. true≢false (sym (r .second) ∙ edge-self (s .edges) b p (sym y))))
+              ∙ sym (degree-is (edge (after s a b on)) (size s) p)
+          | yes l ↦ end-moved i l ∙ elim (ℕ-discrete i 0) [
+            | yes p ↦ rw (p, first-is e) (ap (moved on) first-degree ∙ sym (first-after .0) ∙ sym (degree-is _ (size s) a))
+            | no m ↦
+                let p : i ≡ 1 = omega arith in
+                rw (p, second-is e) (ap (moved on) second-degree ∙ sym (second-after .0) ∙ sym (degree-is _ (size s) b))
+          ]
+        ]
 
-    pub gained-ready : {r : ℕ} → r ≡ refusal ((11, anyTo (λ i. ltb limit (getD degrees i 0)) count) ∷ (12, leb limit (getD degrees 0 0) || leb limit (getD degrees 1 0)) ∷ []) → r ≡ 0
-        → (getD degrees 0 0 < limit) × (getD degrees 1 0 < limit)
-    gained-ready e z =
-        let both = or-false-both (leb limit (getD degrees 0 0)) (leb limit (getD degrees 1 0)) (not-crowded (anyTo (λ i. ltb limit (getD degrees i 0)) count) _ e z .1) in
-        (leb-false limit (getD degrees 0 0) (both .0), leb-false limit (getD degrees 1 0) (both .1))
+        -- 12
+        over-after : anyTo (λ i. ltb limit (getD next i 0)) 2 ≡ tooMany (edge (after s a b on)) (size s) (ends a b)
+        over-after =
+            over-is (edge (after s a b on)) (size s) (ends a b) (t .nodes) next 2
+            (λ i h. node-below e (c .firstBelow) (c .secondBelow) i (omega (arith, two)))
+            (λ p h. listed-ends e p) (λ i h. each-after i (omega (arith, two)))
 
-    pub gained-at : {after next : List ℕ} → after ≡ withEdge es a b true → next ≡ set (set degrees 0 (getD degrees 0 0 + 1)) 1 (getD degrees 1 0 + 1)
-        → Degrees (edge after) n nodes next 2
-    gained-at {next = next} q e = subst (λ l. Degrees (edge l) n nodes next 2) (sym q) (record {
-      few = omega arith;
-      room = next-room (getD degrees 0 0 + 1) (getD degrees 1 0 + 1) e;
-      each = λ i h. elim (ℕ-discrete i 0) [
-        | yes q ↦ rw (q, t .first) (omega (arith, next-first (getD degrees 0 0 + 1) (getD degrees 1 0 + 1) e, first-is, first-gains es n a b (p .nodes) room (p .is)))
-        | no k ↦
-            let q : i ≡ 1 = omega arith in
-            rw (q, t .second) (omega (arith, next-second (getD degrees 0 0 + 1) (getD degrees 1 0 + 1) e, second-is, second-gains es n a b (p .nodes) room (p .is)))
-      ];
-    })
+        rest : {v : Bool} → on ≡ v → refusal (crowding s a b on) ≡ refusal (cond v (crowdedAfter (edge (after s a b on)) (size s) (ends a b) ∷ []) [])
+        rest p =
+            passed-before _ (graph s) (size s) _ (sym over-before ∙ sym f ∙ z)
+            ∙ ap (λ v. refusal (cond v (crowdedAfter (edge (after s a b on)) (size s) (ends a b) ∷ []) [])) p
 
-  module _ (p : Pair (edge es) n a b true) where
-    pub remove-crowded : anyTo (λ i. ltb limit (getD degrees i 0)) count ≡ true → 11 ≡ refusal (removeConditions n (edge es) a b)
-    remove-crowded e = sym (pair-append n a b _ (p .nodes) ∙ passed-absent _ (edge es) a b (p .is) ∙ refused-before [] (edge es) n _ (sym (over-is t degrees d) ∙ e))
+        module _ {y : Bool} (g : y ≡ anyTo (λ i. ltb limit (getD next i 0)) 2) where
+          -- no end has more edges after a removal
+          pub after-crowded : y ≡ true → 12 ≡ refusal (crowding s a b on)
+          unfolding moved
+          after-crowded w = elim (test on) [
+            | inl p ↦ sym (rest p ∙ refused-after [] _ (size s) (ends a b) (sym over-after ∙ sym g ∙ w))
+            | inr p ↦ absurd (true≢false (sym w ∙ g ∙ anyTo-never _ 2 (λ i h. le-ltb limit (getD next i 0)
+                (omega (arith, end-moved i h, ap (λ v. moved v (getD before i 0)) p, within-by before (t .count) f z i (omega (arith, two)))))))
+          ]
 
-    pub remove-accepted : anyTo (λ i. ltb limit (getD degrees i 0)) count ≡ false → 0 ≡ refusal (removeConditions n (edge es) a b)
-    remove-accepted e =
-        sym (pair-append n a b _ (p .nodes) ∙ passed-absent _ (edge es) a b (p .is) ∙ passed-before [] (edge es) n _ (sym (over-is t degrees d) ∙ e) ∙ refusal-none)
+          pub accepted : y ≡ false → (refusal (crowding s a b on) ≡ 0) × Editable s a b on t next
+          accepted w = (
+            elim (test on) [
+              | inl p ↦ rest p ∙ passed-after [] _ (size s) (ends a b) (sym over-after ∙ sym g ∙ w) ∙ refusal-none
+              | inr p ↦ rest p ∙ refusal-none
+            ],
+            record {
+              pair = c;
+              listed = e;
+              counted = each-after;
+              within = λ i h. elim (decLt i 2) [
+                | yes l ↦ within-by next 2 g w i l
+                | no l ↦ rw (common-kept i (omega arith)) (within-by before (t .count) f z i h)
+              ];
+            },
+          )
 
-    pub lost-ready : (0 < getD degrees 0 0) × (0 < getD degrees 1 0)
-    lost-ready = (omega (arith, first-is, first-loses es n a b (p .nodes) room (p .is)), omega (arith, second-is, second-loses es n a b (p .nodes) room (p .is)))
+-- the lengths are accepted, and the conditions before the last ones
+pub call-rest : (s t : State) (cs ds : List Condition) → Fitted (size s) (length (s .edges)) (length (s .marks)) → refusal cs ≡ refusal ds
+    → outcome ds s t ≡ outcome (lengths s ++ cs) s t
+unfolding outcome
+call-rest s t cs ds f e = rw (lengths-pass s cs f ∙ e)
 
-    -- a common neighbour is no end, and keeps its edges
-    kept : (q : ℕ) → (edge es a q && edge es b q) ≡ true → degree (edge es) n q ≡ degree (edge (withEdge es a b false)) n q
-    kept q c =
-        let both = and-true (edge es a q) (edge es b q) c in
-        let first : q ≡ a → ⊥ = λ e. true≢false (sym (both .0) ∙ edge-self es a q (sym e)) in
-        let second : q ≡ b → ⊥ = λ e. true≢false (sym (both .1) ∙ edge-self es b q (sym e)) in
-        degree-is (edge es) n q
-        ∙ countTo-ext (edge es q) (edge (withEdge es a b false) q) n (λ j h. sym (edge-with-other es a b false q j (λ x y. omega arith)))
-        ∙ sym (degree-is (edge (withEdge es a b false)) n q)
+-- ---- with the degrees of all nodes at hand
 
-    lost-each : (next : List ℕ) → next ≡ set (set degrees 0 (getD degrees 0 0 - 1)) 1 (getD degrees 1 0 - 1)
-        → (i : ℕ) → i < count → getD next i 0 ≡ degree (edge (withEdge es a b false)) n (getD nodes i 0)
-    lost-each next e i h = elim (decLt i 2) [
-      | no l ↦ next-other (getD degrees 0 0 - 1) (getD degrees 1 0 - 1) e i (omega arith) ∙ d .each i h ∙ kept (getD nodes i 0) (t .common i (omega arith) h)
-      | yes l ↦ elim (ℕ-discrete i 0) [
-        | yes q ↦ rw (q, t .first) (omega (arith, next-first (getD degrees 0 0 - 1) (getD degrees 1 0 - 1) e, first-is, first-loses es n a b (p .nodes) room (p .is)))
-        | no k ↦
-            let q : i ≡ 1 = omega arith in
-            rw (q, t .second) (omega (arith, next-second (getD degrees 0 0 - 1) (getD degrees 1 0 - 1) e, second-is, second-loses es n a b (p .nodes) room (p .is)))
-      ]
-    ]
+changed-edges : (s : State) (a b : ℕ) (on : Bool) → changed s a b on .edges ≡ after s a b on
+unfolding edited
+changed-edges s a b on = ap (λ t. t .edges) (changed-is s a b on)
 
-    pub lost-at : {after next : List ℕ} → after ≡ withEdge es a b false → next ≡ set (set degrees 0 (getD degrees 0 0 - 1)) 1 (getD degrees 1 0 - 1)
-        → Degrees (edge after) n nodes next count
-    lost-at {next = next} q e = subst (λ l. Degrees (edge l) n nodes next count) (sym q) (record { few = d .few; room = next-room (getD degrees 0 0 - 1) (getD degrees 1 0 - 1) e; each = lost-each next e })
+module _ {s : State} {a b : ℕ} {on : Bool} (p : Steppable s a b on) {table : List ℕ} (e : table ≡ degreesOf (s .edges) (size s)) where
+  pub table-ready : Shiftable table a b on
+  table-ready = let c = p .pair in rw e (shiftable (s .edges) (size s) a b on (c .apart) (c .firstBelow) (c .secondBelow) (c .room) (c .was))
+
+  module _ {next : List ℕ} (q : next ≡ shifted table a b on) where
+    table-after : next ≡ degreesOf (after s a b on) (size s)
+    table-after =
+        let c = p .pair in
+        q ∙ ap (λ l. shifted l a b on) e ∙ shifted-degrees (s .edges) (size s) a b on (c .apart) (c .firstBelow) (c .secondBelow) (c .room) (c .was)
+
+    pub table-kept : {r : State} → r ≡ changed s a b on → next ≡ degreesOf (r .edges) (size s)
+    table-kept l = table-after ∙ ap (λ es. degreesOf es (size s)) (sym (ap (λ x. x .edges) l ∙ changed-edges s a b on))
+
+    module _ {t : Touched} (l : Lists (graph s) (size s) a b t) where
+      inside : (i : ℕ) → i < t .count → getD (t .nodes) i 0 < size s
+      inside = node-below l (p .pair .firstBelow) (p .pair .secondBelow)
+
+      pub read-ready : Among (t .nodes) (t .count) (length next)
+      read-ready =
+          let long = ap length table-after ∙ length-degrees (after s a b on) (size s) in
+          record { few = l .few; small = omega (arith, long); below = λ i h. omega (arith, inside i h, p .pair .room .few, long) }
+
+      pub step-ready : {degrees : List ℕ} → degrees ≡ ofEach (λ x. getD next x 0) (t .nodes) (t .count) → Editable s a b on t degrees
+      step-ready {degrees} d =
+          let counted : (i : ℕ) → i < t .count → getD degrees i 0 ≡ degree (edge (after s a b on)) (size s) (getD (t .nodes) i 0) =
+          λ i h. each-at (λ x. getD next x 0) (t .nodes) (t .count) d (l .few) i h
+          ∙ degree-of (after s a b on) (size s) (p .pair .room .few) table-after (getD (t .nodes) i 0) (inside i h) in
+          record {
+            pair = p .pair;
+            listed = l;
+            counted = counted;
+            within = λ i h. rw (counted i h) (p .fewAfter (getD (t .nodes) i 0) (inside i h));
+          }

@@ -13,14 +13,16 @@ use Rattle.ego.proofs.Agreement.{Agree}
 use Rattle.ego.proofs.FoundLaws.{simple-edges}
 use Rattle.ego.proofs.WithPair.{apart-numbers, pair-is}
 use Rattle.ego.specs.Bound.{bound}
-use Rattle.ego.specs.Change.{Gains, withPair}
+use Rattle.ego.specs.inside.Gains.{Gains}
+use Rattle.ego.specs.Change.{withPair}
 use Rattle.ego.specs.Graph.{Graph, Simple}
 use Rattle.packed.proofs.EdgeLaws.{edge-comm, edge-with-other, edge-with-same, length-with-edge}
 use Rattle.packed.proofs.PairLaws.{pair-within, room-within}
 use Rattle.packed.specs.Edges.{edge, withEdge}
-use Rattle.packed.specs.Pairs.{Room}
+use Rattle.packed.specs.inside.Room.{Room}
 use Rattle.state.proofs.MarkLaws.{length-staleTo, staleTo-at}
-use Rattle.edits.specs.Edit.{edited, renewed}
+use Rattle.edits.specs.Edit.{added, edited, removed, renewed}
+use Rattle.edits.specs.inside.Change.{changed}
 use Rattle.state.specs.Refusal.{ends, touched}
 use Rattle.state.specs.State.{figure, graph, isStale, size, State}
 
@@ -77,6 +79,15 @@ unfolding touched
 touched-agree a b ha hb h p hp = rw (h a p ha hp, h b p hb hp)
 
 -- ---- the state
+
+-- the nodes that take their bounds
+abbrev pub renewing : Graph → ℕ → ℕ → Bool → ℕ → Bool
+renewing g a b on = cond on (ends a b) (touched g a b)
+
+pub changed-is : (s : State) (a b : ℕ) (on : Bool) → changed s a b on ≡ edited s a b on (renewing (graph s) a b on)
+unfolding added removed
+changed-is s a b true = refl
+changed-is s a b false = refl
 
 module _ (s : State) (a b : ℕ) (on : Bool) (which : ℕ → Bool) where
   pub edited-size : size (edited s a b on which) ≡ size s

@@ -17,26 +17,28 @@ use Rattle.ego.proofs.Changes.{common-at-most, common-lower, gains-degree, othe
 use Rattle.ego.proofs.Extremes.{unlinked-score}
 use Rattle.ego.proofs.FoundLaws.{simple-edges}
 use Rattle.ego.specs.Bound.{bound}
-use Rattle.ego.specs.Change.{Gains}
+use Rattle.ego.specs.inside.Gains.{Gains}
 use Rattle.ego.specs.Graph.{degree, Graph}
 use Rattle.ego.specs.Limits.{limit}
 use Rattle.ego.specs.Score.{score}
 use Rattle.packed.proofs.BitLaws.{bit-zeros}
 use Rattle.packed.proofs.EdgeLaws.{edge-self, edge-two}
 use Rattle.packed.specs.Edges.{edge, withEdge}
-use Rattle.packed.specs.Pairs.{pairIndex, Room}
+use Rattle.packed.specs.Pairs.{pairIndex}
+use Rattle.packed.specs.inside.Room.{Room}
 use Rattle.edits.proofs.EditLaws.{add-gains, edited-figure, edited-graph, edited-kept, edited-size, edited-stale, not-end, remove-gains, untouched-common, untouched-end}
 use Rattle.state.proofs.MarkLaws.{all-stale}
 use Rattle.calls.specs.Clear.{cleared}
 use Rattle.edits.specs.Edit.{added, edited, removed}
-use Rattle.state.specs.Honest.{Honest}
+use Rattle.state.specs.inside.Honest.{Honest}
 use Rattle.state.specs.Refusal.{ends, touched}
 use Rattle.state.specs.Sizes.{edgeBytes}
 use Rattle.calls.specs.Snapshot.{loaded}
 use Rattle.state.specs.State.{figure, graph, isStale, size, State}
 
 -- only the edges among the nodes below n matter
-pub honest-agree : (n : ℕ) (g g′ : Graph) (figures marks : List ℕ) → length figures ≡ n → Agree n g g′ → Honest (score g n) figures marks → Honest (score g′ n) figures marks
+pub honest-agree : (n : ℕ) (g g′ : Graph) (figures marks : List ℕ) → length figures ≡ n → Agree n g g′ → Honest (score g n) figures marks
+    → Honest (score g′ n) figures marks
 honest-agree n g g′ figures marks e same h = record {
   settled = λ p l d. h .settled p l d ∙ score-agree n p (omega arith) same;
   above = λ p l. rw (← score-agree n p (omega arith) same) (h .above p l);
@@ -89,7 +91,8 @@ module _ (s : State) (a b : ℕ) (on : Bool) (renewed : ℕ → Bool) (room : si
       below : (p : ℕ) → p < size (edited s a b on renewed) → p < size s
       below p l = omega (arith, edited-size s a b on renewed)
 
-      settled : (p : ℕ) → p < size s → isStale (edited s a b on renewed) p ≡ false → figure (edited s a b on renewed) p ≡ score (graph (edited s a b on renewed)) (size s) p
+      settled : (p : ℕ) → p < size s → isStale (edited s a b on renewed) p ≡ false
+          → figure (edited s a b on renewed) p ≡ score (graph (edited s a b on renewed)) (size s) p
       settled p l e =
           let r = or-false-both (touched (graph s) a b p) (isStale s p) (sym (edited-stale s a b on renewed room p l) ∙ e) in
           edited-kept s a b on renewed room p l (only p (r .0)) (r .0) .1 ∙ h .settled p l (r .1) ∙ same p (r .0)
@@ -101,9 +104,11 @@ module _ (s : State) (a b : ℕ) (on : Bool) (renewed : ℕ → Bool) (room : si
       ]
         where
           renewed-above : (q : ℕ) → score (graph (edited s a b on renewed)) (size s) q ≤ bound (edge (withEdge (s .edges) a b on)) (size s) q
-          renewed-above q = rw (edited-graph s a b on renewed) (score-bound (edge (withEdge (s .edges) a b on)) (simple-edges (withEdge (s .edges) a b on)) (size s) q)
+          renewed-above q = rw (edited-graph s a b on renewed)
+              (score-bound (edge (withEdge (s .edges) a b on)) (simple-edges (withEdge (s .edges) a b on)) (size s) q)
 
-module _ (s : State) (a b : ℕ) (room : Room (size s) (s .edges)) (marks : size s ≤ 8 * length (s .marks)) (ha : a < size s) (hb : b < size s) (two : a ≢ b) where
+module _ (s : State) (a b : ℕ) (room : Room (size s) (s .edges)) (marks : size s ≤ 8 * length (s .marks)) (ha : a < size s) (hb : b < size s)
+    (two : a ≢ b) where
   -- ADD: the ends take their bounds, and a common neighbour's score falls below the figure that it keeps
   pub added-honest : edge (s .edges) a b ≡ false → Honest (score (graph s) (size s)) (s .figures) (s .marks)
       → Honest (score (graph (added s a b)) (size s)) (added s a b .figures) (added s a b .marks)
@@ -133,7 +138,8 @@ module _ (s : State) (a b : ℕ) (room : Room (size s) (s .edges)) (marks : size
           let d = not-end a b p (untouched-end (graph s) a b p u) in
           rw (edited-graph s a b false (touched (graph s) a b))
           (sym (others-same _ _ a b loss (size s) p (d .0) (d .1)
-          (rw (loss .others p a (λ x y. d .0 x) (λ x y. d .1 x), loss .others p b (λ x y. d .0 x) (λ x y. d .1 x)) (untouched-common (graph s) (simple-edges (s .edges)) a b p u))))
+          (rw (loss .others p a (λ x y. d .0 x) (λ x y. d .1 x), loss .others p b (λ x y. d .0 x) (λ x y. d .1 x))
+          (untouched-common (graph s) (simple-edges (s .edges)) a b p u))))
 
   -- WHY a removal may not keep a common neighbour's figure: if it is settled it falls below the score, which rises strictly.
   pub removed-rises : edge (s .edges) a b ≡ true → Honest (score (graph s) (size s)) (s .figures) (s .marks)

@@ -3,7 +3,6 @@ pub mod EditLaws
 pub mod HonestLaws
 pub mod ListedLaws
 pub mod NamedLaws
-pub mod PairRefusals
 pub mod SameRefusal
 pub mod Sound
 pub mod Spare

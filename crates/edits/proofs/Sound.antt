@@ -22,7 +22,7 @@ use Rattle.state.proofs.MarkLaws.{length-allExact, length-allStale}
 use Rattle.state.proofs.RefusalLaws.{Fitted, sized-room}
 use Rattle.calls.specs.Clear.{cleared}
 use Rattle.edits.specs.Edit.{added, edited, removed}
-use Rattle.state.specs.Honest.{Honest}
+use Rattle.state.specs.inside.Honest.{Honest}
 use Rattle.state.specs.Refusal.{ends, touched}
 use Rattle.state.specs.Sizes.{edgeBytes}
 use Rattle.calls.specs.Snapshot.{loaded}
@@ -120,13 +120,17 @@ module _ {n : ℕ} {g : Graph} {s : State} (a b : ℕ) where
   pub added-sound : Named n g a b false → Sound n g s → Sound n (withPair g a b true) (added s a b)
   added-sound e h = record {
     shows = added-shows e (h .shows);
-    honest = subst (λ m. Sound m g s → Named m g a b false → Honest (score (graph (added s a b)) m) (added s a b .figures) (added s a b .marks)) (h .shows .nodes)
-        (λ k d. added-honest s a b (sized-room (k .shows .fits .sizes)) (marks-room (k .shows .fits)) (d .first) (d .second) (d .two) (was-here a b (k .shows) false d) (k .honest)) h e;
+    honest = subst (λ m. Sound m g s → Named m g a b false → Honest (score (graph (added s a b)) m) (added s a b .figures) (added s a b .marks))
+        (h .shows .nodes)
+        (λ k d. added-honest s a b (sized-room (k .shows .fits .sizes)) (marks-room (k .shows .fits)) (d .first) (d .second) (d .two)
+        (was-here a b (k .shows) false d) (k .honest)) h e;
   }
 
   pub removed-sound : Named n g a b true → Sound n g s → Sound n (withPair g a b false) (removed s a b)
   removed-sound e h = record {
     shows = removed-shows e (h .shows);
-    honest = subst (λ m. Sound m g s → Named m g a b true → Honest (score (graph (removed s a b)) m) (removed s a b .figures) (removed s a b .marks)) (h .shows .nodes)
-        (λ k d. removed-honest s a b (sized-room (k .shows .fits .sizes)) (marks-room (k .shows .fits)) (d .first) (d .second) (d .two) (was-here a b (k .shows) true d) (k .honest)) h e;
+    honest = subst (λ m. Sound m g s → Named m g a b true → Honest (score (graph (removed s a b)) m) (removed s a b .figures) (removed s a b .marks))
+        (h .shows .nodes)
+        (λ k d. removed-honest s a b (sized-room (k .shows .fits .sizes)) (marks-room (k .shows .fits)) (d .first) (d .second) (d .two)
+        (was-here a b (k .shows) true d) (k .honest)) h e;
   }

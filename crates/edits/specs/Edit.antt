@@ -1,14 +1,13 @@
 -- Add and remove an edge. Assumes nothing.
 use mathlib.Core.Bool.{Bool, true, false, cond}
 use mathlib.Core.List.{List, [], _∷_, _++_}
-use Prim.Native.Nat.{ℕ, _≤_, _<_}
+use Prim.Native.Nat.{ℕ}
 use lib.ListN.{length, getD}
 use Rattle.arith.specs.Sums.{tabulate}
 use Rattle.packed.specs.Edges.{edge, withEdge}
-use Rattle.packed.specs.Pairs.{Room}
 use Rattle.ego.specs.Graph.{Graph}
 use Rattle.ego.specs.Bound.{bound}
-use Rattle.state.specs.Marks.{markBytes, staleTo}
+use Rattle.state.specs.Marks.{staleTo}
 use Rattle.state.specs.State.{State, size, graph}
 use Rattle.state.specs.Refusal.{Condition, nodeNumber, sameNodes, edgePresent, edgeAbsent, crowdedBefore, crowdedAfter, ends, touched}
 use Rattle.state.specs.Outcome.{Outcome, outcome, lengths}
@@ -48,10 +47,3 @@ removeConditions n g a b = nodeNumber n a ∷ nodeNumber n b ∷ sameNodes a b �
 
 unfoldable pub removeCall : State → ℕ → ℕ → Outcome
 removeCall s a b = outcome (lengths s ++ removeConditions (size s) (graph s) a b) s (removed s a b)
-
--- the lengths that an edit of the pair a, b needs
-pub record Editable (s : State) (a b : ℕ) : Type 0 where
-  pub firstBelow : a < size s
-  pub secondBelow : b < size s
-  pub room : Room (size s) (s .edges)
-  pub marked : markBytes (size s) ≤ length (s .marks)

@@ -1,13 +1,16 @@
-// The calls that add and remove an edge.
+// The calls that add and remove an edge. Where both do the same, `on` is true for an add and false for a removal.
 use crate::touched::MAX_TOUCHED;
-use crate::touched::any_above;
-use crate::touched::degrees_of;
+use crate::touched::Touched;
+use crate::touched::degrees_counted;
+use crate::touched::degrees_in;
 use crate::touched::touched_of;
 use ego::bound::bound_at;
 use ego::limits::LIMIT;
-use packed::edges::degree;
+use ego::neighbours::neighbours_of;
+use packed::degrees::shift;
 use packed::edges::has;
 use packed::edges::link;
+use state::crowded::any_among;
 use state::marks::put;
 use state::refusal::CROWDED_AFTER;
 use state::refusal::CROWDED_BEFORE;
@@ -17,24 +20,28 @@ use state::refusal::NODE;
 use state::refusal::SAME_NODE;
 use state::sizes::state_refusal;
 ghost use mathlib.Core.Path.{_≡_};
-ghost use mathlib.Core.Bool.{cond, _||_};
-ghost use mathlib.Core.List.{[], _∷_};
-ghost use Prim.Native.Nat.{ℕ, _+_, _-_, _≤_, _<_};
-ghost use lib.Dec.{leb, ltb};
-ghost use lib.ListN.{length, getD, set};
+ghost use mathlib.Core.Bool.{cond};
+ghost use Prim.Native.Nat.{ℕ, _+_, _≤_, _<_};
+ghost use lib.Dec.{ltb};
+ghost use lib.ListN.{length, getD};
 ghost use Rattle.arith.specs.Sums.{anyTo};
-ghost use Rattle.packed.specs.Pairs.{Room, maxNodes};
+ghost use Rattle.packed.specs.inside.Room.{Room};
+ghost use Rattle.packed.specs.Pairs.{maxNodes};
 ghost use Rattle.packed.specs.Edges.{edge};
+ghost use Rattle.packed.specs.inside.Degrees.{degreesOf, shifted, Shiftable};
 ghost use Rattle.ego.specs.Limits.{limit};
 ghost use Rattle.state.specs.Marks.{markBytes};
-ghost use Rattle.state.specs.Refusal.{refusal, nodeNumber, sameNodes, edgePresent, edgeAbsent};
-ghost use Rattle.state.specs.Outcome.{left, state};
-ghost use Rattle.edits.specs.Touched.{maxTouched, staleEach, boundEach};
-ghost use Rattle.edits.specs.Edit.{Editable, added, removed, addCall, removeCall};
+ghost use Rattle.state.specs.Refusal.{refusal};
+ghost use Rattle.state.specs.Outcome.{left};
+ghost use Rattle.state.specs.Lent.{atEntry, atExit, lent};
+ghost use Rattle.edits.specs.inside.Touched.{maxTouched, staleEach, boundEach, Among};
+ghost use Rattle.edits.specs.inside.Change.{pairConditions, changeCall, editCall, Changeable, Steppable, Editable, changed};
+ghost use Rattle.edits.specs.Edit.{addCall, removeCall};
 
-// Refusals 4 and 5 of a pair.
-fn pair_refusal(n: usize, a: usize, b: usize) -> u64
-    ensures { λ r. ⌜ r ≡ refusal (nodeNumber n a ∷ nodeNumber n b ∷ sameNodes a b ∷ []) ⌝ }
+// Refusals 4 and 5 of a pair; 6 of an add, 7 of a removal.
+fn pair_refusal(edges: &[u8], n: usize, a: usize, b: usize, on: bool) -> u64
+    requires { ⌜ Room n (now edges) ⌝ }
+    ensures { λ r. ⌜ r ≡ refusal (pairConditions n (edge (now (edges .entry))) a b on) ⌝ }
 {
     if n <= a {
         return NODE;
@@ -45,81 +52,36 @@ fn pair_refusal(n: usize, a: usize, b: usize) -> u64
     if a == b {
         return SAME_NODE;
     }
-    0
-}
-
-// Refusals 4 to 6 of an add.
-fn add_refusal(edges: &[u8], n: usize, a: usize, b: usize) -> u64
-    requires { ⌜ Room n (now edges) ⌝ }
-    ensures { λ r. ⌜ r ≡ refusal (nodeNumber n a ∷ nodeNumber n b ∷ sameNodes a b ∷ edgePresent (edge (now (edges .entry))) a b ∷ []) ⌝ }
-{
-    let pair = pair_refusal(n, a, b);
-    if pair != 0 {
-        return pair;
+    if has(edges, a, b) != on {
+        return 0;
     }
-    if has(edges, a, b) {
+    if on {
         return EDGE_PRESENT;
     }
-    0
+    EDGE_ABSENT
 }
 
-// Refusals 4, 5 and 7 of a removal.
-fn remove_refusal(edges: &[u8], n: usize, a: usize, b: usize) -> u64
-    requires { ⌜ Room n (now edges) ⌝ }
-    ensures { λ r. ⌜ r ≡ refusal (nodeNumber n a ∷ nodeNumber n b ∷ sameNodes a b ∷ edgeAbsent (edge (now (edges .entry))) a b ∷ []) ⌝ }
-{
-    let pair = pair_refusal(n, a, b);
-    if pair != 0 {
-        return pair;
-    }
-    if !has(edges, a, b) {
-        return EDGE_ABSENT;
-    }
-    0
-}
-
-// Refusals 11 and 12 of an add that touches nodes of these degrees, the ends first.
-fn add_crowded(degrees: [u16; MAX_TOUCHED], count: usize) -> u64
+// Whether one of the first `count` degrees is too many.
+fn any_above(degrees: [u16; MAX_TOUCHED], count: usize) -> bool
     requires { ⌜ count ≤ maxTouched ⌝ }
-    ensures { λ r. ⌜ r ≡ refusal ((11, anyTo (λ i. ltb limit (getD degrees i 0)) count) ∷ (12, leb limit (getD degrees 0 0) || leb limit (getD degrees 1 0)) ∷ []) ⌝ }
+    ensures { λ r. ⌜ r ≡ anyTo (λ i. ltb limit (getD degrees i 0)) count ⌝ }
 {
-    if any_above(degrees, count) {
-        return CROWDED_BEFORE;
-    }
-    if LIMIT as u16 <= degrees[0] {
-        return CROWDED_AFTER;
-    }
-    if LIMIT as u16 <= degrees[1] {
-        return CROWDED_AFTER;
-    }
-    0
+    any_among(&degrees[..], count)
 }
 
-// The degrees with one edge more at the ends, which come first.
-fn gained(degrees: [u16; MAX_TOUCHED]) -> [u16; MAX_TOUCHED]
-    requires { ⌜ (getD degrees 0 0 < limit) × (getD degrees 1 0 < limit) ⌝ }
-    ensures { λ r. ⌜ r ≡ set (set degrees 0 (getD degrees 0 0 + 1)) 1 (getD degrees 1 0 + 1) ⌝ }
+// The degrees after the edit: the ends, which come first, have one edge more, or one less.
+fn after_edit(degrees: [u16; MAX_TOUCHED], on: bool) -> [u16; MAX_TOUCHED]
+    requires { ⌜ Shiftable degrees 0 1 on ⌝ }
+    ensures { λ r. ⌜ r ≡ shifted degrees 0 1 on ⌝ }
 {
     let mut after = degrees;
-    after[0] = degrees[0] + 1;
-    after[1] = degrees[1] + 1;
-    after
-}
-
-// The degrees with one edge less at the ends, which come first.
-fn lost(degrees: [u16; MAX_TOUCHED]) -> [u16; MAX_TOUCHED]
-    requires { ⌜ (0 < getD degrees 0 0) × (0 < getD degrees 1 0) ⌝ }
-    ensures { λ r. ⌜ r ≡ set (set degrees 0 (getD degrees 0 0 - 1)) 1 (getD degrees 1 0 - 1) ⌝ }
-{
-    let mut after = degrees;
-    after[0] = degrees[0] - 1;
-    after[1] = degrees[1] - 1;
+    shift(&mut after[..], 0, 1, on);
     after
 }
 
 // Marks the first `count` nodes stale.
 fn mark_each(marks: &mut [u8], nodes: [u8; MAX_TOUCHED], count: usize)
-    requires { ⌜ (count ≤ maxTouched) × ((i : ℕ) → i < count → (getD nodes i 0 < maxNodes) × (markBytes (getD nodes i 0 + 1) ≤ length (now marks))) ⌝ }
+    requires { ⌜ Among nodes count maxNodes × ((i : ℕ) → i < count → markBytes (getD nodes i 0 + 1) ≤ length (now marks)) ⌝ }
     ensures { λ _. ⌜ now (marks .exit) ≡ staleEach nodes (now (marks .entry)) count ⌝ }
 {
     for i in 0..count {
@@ -134,7 +96,7 @@ fn bound_each(
     degrees: [u16; MAX_TOUCHED],
     count: usize,
 )
-    requires { ⌜ (count ≤ maxTouched) × ((i : ℕ) → i < count → (getD nodes i 0 < length (now figures)) × (getD degrees i 0 ≤ maxNodes)) ⌝ }
+    requires { ⌜ Among nodes count (length (now figures)) × ((i : ℕ) → i < count → getD degrees i 0 ≤ limit) ⌝ }
     ensures { λ _. ⌜ now (figures .exit) ≡ boundEach nodes degrees (now (figures .entry)) count ⌝ }
 {
     for i in 0..count {
@@ -153,71 +115,116 @@ fn renewed_count(on: bool, count: usize) -> usize
     count
 }
 
-// Adds the edge a, b where `on`, and removes it elsewhere, in a state that has the lengths for it.
-pub fn apply(edges: &mut [u8], figures: &mut [u64], marks: &mut [u8], a: usize, b: usize, on: bool)
-    requires { ⌜ Editable (state (now edges) (now figures) (now marks)) a b ⌝ }
-    ensures { λ _. ⌜ state (now (edges .exit)) (now (figures .exit)) (now (marks .exit)) ≡ cond on (added (state (now (edges .entry)) (now (figures .entry)) (now (marks .entry))) a b) (removed (state (now (edges .entry)) (now (figures .entry)) (now (marks .entry))) a b) ⌝ }
+// Makes an edit that is accepted, from the nodes that it touches and their degrees after it.
+fn apply(
+    edges: &mut [u8],
+    figures: &mut [u64],
+    marks: &mut [u8],
+    a: usize,
+    b: usize,
+    on: bool,
+    touching: Touched,
+    degrees: [u16; MAX_TOUCHED],
+)
+    requires { ⌜ Editable (lent edges figures marks) a b on touching degrees ⌝ }
+    ensures { λ _. ⌜ atExit edges figures marks ≡ changed (atEntry edges figures marks) a b on ⌝ }
 {
-    let n = figures.len();
-    let touching = touched_of(edges, n, a, b);
     let nodes = touching.nodes;
     let count = touching.count;
     let renewed = renewed_count(on, count);
     link(edges, a, b, on);
-    let degrees = degrees_of(edges, n, nodes, degree(edges, n, a), renewed);
     mark_each(marks, nodes, count);
     bound_each(figures, nodes, degrees, renewed);
 }
 
-// Adds the edge a, b. Both ends take their bounds; they and their common neighbours become stale.
-pub fn add(edges: &mut [u8], figures: &mut [u64], marks: &mut [u8], a: usize, b: usize) -> u64
-    ensures { λ r. ⌜ left r (now (edges .exit)) (now (figures .exit)) (now (marks .exit)) ≡ addCall (state (now (edges .entry)) (now (figures .entry)) (now (marks .entry))) a b ⌝ }
+// Makes an edit whose lengths and pair are accepted, unless a node has too many edges: refusals 11 and 12. A removal leaves no end more edges.
+fn change(
+    edges: &mut [u8],
+    figures: &mut [u64],
+    marks: &mut [u8],
+    a: usize,
+    b: usize,
+    on: bool,
+) -> u64
+    requires { ⌜ Changeable (lent edges figures marks) a b on ⌝ }
+    ensures { λ r. ⌜ left r (atExit edges figures marks) ≡ changeCall (atEntry edges figures marks) a b on ⌝ }
+{
+    let n = figures.len();
+    let near = neighbours_of(edges, n, a);
+    let first = near.count;
+    if LIMIT < first {
+        return CROWDED_BEFORE;
+    }
+    let touching = touched_of(edges, near, a, b);
+    let count = touching.count;
+    let nodes = touching.nodes;
+    let before = degrees_counted(edges, n, nodes, first, count);
+    if any_above(before, count) {
+        return CROWDED_BEFORE;
+    }
+    let after = after_edit(before, on);
+    if any_above(after, 2) {
+        return CROWDED_AFTER;
+    }
+    apply(edges, figures, marks, a, b, on, touching, after);
+    0
+}
+
+// An edit that no node's edges refuse, where a table has the degrees of all nodes; the table has the degrees after it when it returns.
+pub fn step(
+    edges: &mut [u8],
+    figures: &mut [u64],
+    marks: &mut [u8],
+    degrees: &mut [u16],
+    a: usize,
+    b: usize,
+    on: bool,
+)
+    requires { ⌜ Steppable (lent edges figures marks) a b on × (now degrees ≡ degreesOf (now edges) (length (now figures))) ⌝ }
+    ensures { λ _. ⌜ atExit edges figures marks ≡ changed (atEntry edges figures marks) a b on ⌝ }
+    ensures { λ _. ⌜ now (degrees .exit) ≡ degreesOf (now (edges .exit)) (length (now (figures .entry))) ⌝ }
+{
+    let n = figures.len();
+    let touching = touched_of(edges, neighbours_of(edges, n, a), a, b);
+    shift(degrees, a, b, on);
+    let nodes = touching.nodes;
+    let renewed = degrees_in(degrees, nodes, touching.count);
+    apply(edges, figures, marks, a, b, on, touching, renewed);
+}
+
+// An add or a removal, with all its refusals.
+fn edit(
+    edges: &mut [u8],
+    figures: &mut [u64],
+    marks: &mut [u8],
+    a: usize,
+    b: usize,
+    on: bool,
+) -> u64
+    ensures { λ r. ⌜ left r (atExit edges figures marks) ≡ editCall (atEntry edges figures marks) a b on ⌝ }
 {
     let n = figures.len();
     let lengths = state_refusal(n, edges.len(), marks.len());
     if lengths != 0 {
         return lengths;
     }
-    let pair = add_refusal(edges, n, a, b);
+    let pair = pair_refusal(edges, n, a, b, on);
     if pair != 0 {
         return pair;
     }
-    let touching = touched_of(edges, n, a, b);
-    let nodes = touching.nodes;
-    let count = touching.count;
-    let degrees = degrees_of(edges, n, nodes, touching.degree, count);
-    let crowded = add_crowded(degrees, count);
-    if crowded != 0 {
-        return crowded;
-    }
-    link(edges, a, b, true);
-    mark_each(marks, nodes, count);
-    bound_each(figures, nodes, gained(degrees), 2);
-    0
+    change(edges, figures, marks, a, b, on)
+}
+
+// Adds the edge a, b. Both ends take their bounds; they and their common neighbours become stale.
+pub fn add(edges: &mut [u8], figures: &mut [u64], marks: &mut [u8], a: usize, b: usize) -> u64
+    ensures { λ r. ⌜ left r (atExit edges figures marks) ≡ addCall (atEntry edges figures marks) a b ⌝ }
+{
+    edit(edges, figures, marks, a, b, true)
 }
 
 // Removes the edge a, b. Both ends and their common neighbours take their bounds and become stale.
 pub fn remove(edges: &mut [u8], figures: &mut [u64], marks: &mut [u8], a: usize, b: usize) -> u64
-    ensures { λ r. ⌜ left r (now (edges .exit)) (now (figures .exit)) (now (marks .exit)) ≡ removeCall (state (now (edges .entry)) (now (figures .entry)) (now (marks .entry))) a b ⌝ }
+    ensures { λ r. ⌜ left r (atExit edges figures marks) ≡ removeCall (atEntry edges figures marks) a b ⌝ }
 {
-    let n = figures.len();
-    let size = state_refusal(n, edges.len(), marks.len());
-    if size != 0 {
-        return size;
-    }
-    let refusal = remove_refusal(edges, n, a, b);
-    if refusal != 0 {
-        return refusal;
-    }
-    let touching = touched_of(edges, n, a, b);
-    let nodes = touching.nodes;
-    let count = touching.count;
-    let degrees = degrees_of(edges, n, nodes, touching.degree, count);
-    if any_above(degrees, count) {
-        return CROWDED_BEFORE;
-    }
-    link(edges, a, b, false);
-    mark_each(marks, nodes, count);
-    bound_each(figures, nodes, lost(degrees), count);
-    0
+    edit(edges, figures, marks, a, b, false)
 }

@@ -17,8 +17,8 @@ use Rattle.arith.proofs.Tests.{and-true, test}
 use Rattle.arith.specs.Lists.{pairs, range}
 use Rattle.ego.proofs.Local.{score-same}
 use Rattle.ego.proofs.Shares.{derived, neighbours-linked}
-use Rattle.ego.specs.Change.{Gains}
-use Rattle.ego.specs.Derived.{common, pairScore, portion}
+use Rattle.ego.specs.inside.Gains.{Gains}
+use Rattle.ego.specs.inside.Derived.{common, pairScore, portion}
 use Rattle.ego.specs.Graph.{degree, ego, Graph, neighbours}
 use Rattle.ego.specs.Limits.{limit, unit}
 use Rattle.ego.specs.Score.{score}
@@ -85,13 +85,15 @@ module _ (g g′ : Graph) (u v : ℕ) (change : Gains g g′ u v) where
 
     lost : (a b : ℕ) → g a b ≡ false → g′ a b ≡ true → pairScore g′ (neighbours g n w) (a, b) < pairScore g (neighbours g n w) (a, b)
     unfolding pairScore portion common degree
-    lost a b e d = rw (d, e) (le-div-iff-mul-le {k = common g (neighbours g n w) a b + 1} (omega arith) .1 (omega (arith, count-most (λ x. g a x && g b x) (neighbours g n w))))
+    lost a b e d = rw (d, e) (le-div-iff-mul-le {k = common g (neighbours g n w) a b + 1} (omega arith) .1
+        (omega (arith, count-most (λ x. g a x && g b x) (neighbours g n w))))
 
     -- A COMMON NEIGHBOUR of the ends scores less with the edge, and more without it.
     pub common-lower : score g′ n w < score g n w
     common-lower = rw (derived g (change .old) n w, derived g′ (change .new) n w, ← near)
         (elim (pairs-in (neighbours g n w) (is-near u wu un) (is-near v wv vn) ends-apart) [
-          | inl m ↦ sum-lt _ _ (pairs (neighbours g n w)) (λ c i. pairScore-down g g′ (neighbours g n w) gains-more c) m (lost u v (change .absent) (change .present))
+          | inl m ↦ sum-lt _ _ (pairs (neighbours g n w)) (λ c i. pairScore-down g g′ (neighbours g n w) gains-more c) m
+              (lost u v (change .absent) (change .present))
           | inr m ↦ sum-lt _ _ (pairs (neighbours g n w)) (λ c i. pairScore-down g g′ (neighbours g n w) gains-more c) m
               (lost v u (change .old .symmetric v u ∙ change .absent) (change .new .symmetric v u ∙ change .present))
         ])

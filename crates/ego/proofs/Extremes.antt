@@ -19,7 +19,7 @@ use Rattle.arith.specs.Sums.{bit}
 use Rattle.ego.proofs.FoundLaws.{degree-is}
 use Rattle.ego.proofs.Shares.{derived, pair-of}
 use Rattle.ego.specs.Bound.{bound}
-use Rattle.ego.specs.Derived.{common, pairScore, portion}
+use Rattle.ego.specs.inside.Derived.{common, pairScore, portion}
 use Rattle.ego.specs.Graph.{degree, Graph, neighbours, Simple}
 use Rattle.ego.specs.Limits.{limit, unit}
 use Rattle.ego.specs.Score.{score, share}

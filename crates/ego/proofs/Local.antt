@@ -40,5 +40,6 @@ module _ (g g′ : Graph) (n p : ℕ) (near : (q : ℕ) → q < n → g p q ≡ 
   score-same =
       sum-mem (share g n p) (share g′ n p) (pairs (neighbours g n p)) (λ c m.
       let r = mem-pairs 0 (neighbours g n p) (neighbours-up g n p) m in
-      ap (λ s. unit * count (inner p) s / length s) (shortest-same g g′ (ego g n p) among (c .0) (c .1) (List·Memᴰ·tail (r .first)) ∙ ap (λ l. shortest g′ (p ∷ l) (c .0) (c .1)) neighbours-same))
+      ap (λ s. unit * count (inner p) s / length s) (shortest-same g g′ (ego g n p) among (c .0) (c .1) (List·Memᴰ·tail (r .first))
+      ∙ ap (λ l. shortest g′ (p ∷ l) (c .0) (c .1)) neighbours-same))
       ∙ ap (λ l. sum (map (share g′ n p) (pairs l))) neighbours-same

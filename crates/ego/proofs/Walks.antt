@@ -17,7 +17,8 @@ pub walks-none : (g : Graph) (h : List ℕ) (u v : ℕ) → u ≢ v → walks g 
 unfolding walks
 walks-none g h u v n = rw (ne-eqb u v n)
 
-two : (g : Graph) (u v : ℕ) (h : List ℕ) → concatMap (λ w. map (λ l. u ∷ l) (consIf (g w v) (w ∷ v ∷ []) [])) (filter (g u) h) ≡ map (λ w. u ∷ w ∷ v ∷ []) (filter (λ w. g u w && g w v) h)
+two : (g : Graph) (u v : ℕ) (h : List ℕ) → concatMap (λ w. map (λ l. u ∷ l) (consIf (g w v) (w ∷ v ∷ []) [])) (filter (g u) h) ≡ map
+    (λ w. u ∷ w ∷ v ∷ []) (filter (λ w. g u w && g w v) h)
 two g u v [] = refl
 two g u v (x ∷ xs) =
     elim (test (g u x)) [
@@ -28,7 +29,8 @@ two g u v (x ∷ xs) =
 module _ (g : Graph) (h : List ℕ) (v : ℕ) (once : times v h ≡ 1) where
   pub walks-one : (w : ℕ) → walks g h 1 w v ≡ consIf (g w v) (w ∷ v ∷ []) []
   unfolding walks
-  walks-one w = concat-once (λ x. map (λ l. w ∷ l) (walks g h 0 x v)) v (λ x n. rw (ne-eqb x v n) refl) (g w) h once ∙ rw (eqb-same v) (consIf-cond (g w v) (w ∷ v ∷ []))
+  walks-one w = concat-once (λ x. map (λ l. w ∷ l) (walks g h 0 x v)) v (λ x n. rw (ne-eqb x v n) refl) (g w) h once
+      ∙ rw (eqb-same v) (consIf-cond (g w v) (w ∷ v ∷ []))
 
   pub walks-two : (u : ℕ) → walks g h 2 u v ≡ map (λ w. u ∷ w ∷ v ∷ []) (filter (λ w. g u w && g w v) h)
   walks-two u = unfold walks in (concat-ext (filter (g u) h) (λ w. ap (map (λ l. u ∷ l)) (walks-one w)) ∙ two g u v h)

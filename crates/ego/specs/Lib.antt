@@ -2,7 +2,6 @@
 pub mod Limits
 pub mod Graph
 pub mod Score
-pub mod Derived
 pub mod Bound
 pub mod Change
-pub mod Words
+pub mod inside

@@ -8,10 +8,3 @@ limit = 32
 -- 01's grains: so many make 1
 abbrev pub unit : ℕ
 unit = 72201776446800
-
--- the words of a neighbourhood, and the bits of a word
-abbrev pub wordCount : ℕ
-wordCount = limit
-
-abbrev pub wordBits : ℕ
-wordBits = 32

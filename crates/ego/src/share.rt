@@ -1,6 +1,6 @@
 // The shares of the pairs of a neighbourhood.
 ghost use mathlib.Core.Path.{_≡_};
-ghost use Rattle.ego.specs.Words.{shareTable};
+ghost use Rattle.ego.specs.inside.Words.{shareTable};
 
 // UNIT / (c + 1), for each count c.
 const SHARES: [u64; 33] = [

@@ -1,35 +1,34 @@
 -- The list in a history, whichever way its entries are lent: its refusal is the model's, it is right by the model's scores, and it keeps the
 -- invariant. Assumes nothing.
 use mathlib.Core.Bool.{_&&_, and-comm, Bool, cond, false, not, true}
-use mathlib.Core.List.{List}
+use mathlib.Core.List.{_++_, List}
 use mathlib.Core.Logic.{inl, inr}
-use mathlib.Core.Path.{ap, refl, subst, sym, _∙_, _≡_}
+use mathlib.Core.Path.{ap, refl, sym, _∙_, _≡_}
 use Prim.Native.Nat.{_<_, suc, zero, ℕ, _≤_}
 use native.Mathlib.Decide.{ℕ-discrete}
 use native.Mathlib.Nat.{le-refl}
 use native.Mathlib.Omega.{arith}
-use borrow.Author.Tests.{eq-eqb, eqb-false, ltb-false, ne-eqb}
 use denote.Laws.{shows}
-use lib.Dec.{eqb, ltb}
-use lib.ListN.{getD, length, take}
-use Rattle.arith.proofs.Tests.{or-false-both, test}
+use lib.ListN.{drop, getD, length, replicate, take}
+use Rattle.arith.proofs.Tests.{test}
 use Rattle.arith.specs.Sums.{countTo}
 use Rattle.ego.specs.Graph.{Graph}
 use Rattle.ego.specs.Score.{score}
-use Rattle.history.specs.History.{after, answer, best, effect, holding, ofList, ofRecords, out, Unaltered}
+use Rattle.history.specs.History.{answer, effect, filledWith, firstOf, ofList, stateAfter, Unaltered}
 use Rattle.history.specs.Model.{asRecords, Entries, inRow, list, room}
-use Rattle.calls.proofs.AcceptLaws.{lengths-pass, passes}
+use Rattle.calls.proofs.AcceptLaws.{lengths-pass}
 use Rattle.state.proofs.CrowdedLaws.{before-agree}
 use Rattle.edits.proofs.Sound.{Sound, sound-score}
 use Rattle.state.specs.Marks.{stale}
-use Rattle.state.specs.Refusal.{everyone, listLength, refusal, scratchLength}
+use Rattle.state.specs.Refusal.{everyone, refusal}
 use Rattle.state.specs.State.{figure, graph, isStale, size, State}
-use Rattle.listing.proofs.RecordLaws.{call-refused, call-taken, entries-refused, entries-taken, ranOf, refusalOf, runOf}
-use Rattle.topk.proofs.Theorem.{listed-right}
-use Rattle.topk.proofs.TurnLaws.{listed-figures, listed-marks}
-use Rattle.topk.specs.declared.entries.Entry.{Entry}
-use Rattle.topk.specs.List.{listConditions, wanted}
-use Rattle.topk.specs.Right.{ranking, Right}
+use Rattle.listing.proofs.RecordLaws.{entries-refused, entries-taken}
+use Rattle.topk.proofs.ListLaws.{call-refused, call-taken, conditions-pass, ranOf, refusalOf}
+use Rattle.topk.proofs.Theorem.{all-steps-right}
+use Rattle.topk.proofs.TurnLaws.{all-steps-figures, all-steps-marks}
+use Rattle.topk.specs.List.{listConditions, listOf, wanted}
+use Rattle.topk.specs.Ranking.{ranking, worksOut}
+use Rattle.topk.specs.inside.Right.{Right}
 use Rattle.topk.specs.Steps.{Progress}
 
 -- the ranking depends on the scores below n alone
@@ -38,78 +37,65 @@ unfolding ranking
 ranking-ext truth truth′ zero h = refl
 ranking-ext truth truth′ (suc n) h = rw (h n (omega arith), ranking-ext truth truth′ n (λ p l. h p (omega arith)))
 
-list-accepted : (n : ℕ) (g : Graph) (k : ℕ) (scratch : List ℕ) → refusal (listConditions n g k scratch) ≡ 0 → (0 < k) × (k ≤ n)
-unfolding scratchLength listLength
-list-accepted n g k scratch e =
-    let r = passes (scratchLength n (length scratch)) _ (λ z. omega arith) e in
-    let q = passes (listLength n k) _ (λ z. omega arith) (r .1) in
-    let t = or-false-both (eqb k 0) (ltb n k) (q .0) in
-    let d = eqb-false k 0 (t .0) in
-    (omega arith, ltb-false n k (t .1))
-
--- what a list does: it turns back and leaves the state, or runs
-pub record Runs (s : State) (entries : Entries) (scratch : List ℕ) : Type 0 where
-  pub refused : (refusalOf s scratch (room entries) ≡ 0 → ⊥)
-      → (answer s (list entries scratch) ≡ refusalOf s scratch (room entries)) × (after s (list entries scratch) ≡ s)
-  pub taken : refusalOf s scratch (room entries) ≡ 0
-      → (answer s (list entries scratch) ≡ 0) × (after s (list entries scratch) ≡ ranOf s (room entries))
-      × (effect s (list entries scratch) .recomputed ≡ runOf s (room entries) .recomputed)
-      × (effect s (list entries scratch) .entries ≡ holding (runOf s (room entries) .kept) entries)
-
-pub list-runs : (s : State) (entries : Entries) (scratch : List ℕ) → Runs s entries scratch
+-- what a list does: it turns back and leaves all as it was, or runs
+list-refused : (s : State) (entries : Entries) (scratch : List ℕ) → (refusalOf s scratch (room entries) ≡ 0 → ⊥)
+    → effect s (list entries scratch)
+    ≡ record { answer = refusalOf s scratch (room entries); after = s; recomputed = 0; entries = entries; scratch = scratch }
 unfolding effect
-list-runs s (inRow numbers) scratch = record {
-  refused = λ d. let e = call-refused s scratch numbers (wanted numbers) refl d in (ap (λ l. ofList l .answer) e, ap (λ l. ofList l .after) e);
-  taken = λ z.
-      let e = call-taken s scratch numbers (wanted numbers) refl z in
-      (ap (λ l. ofList l .answer) e, ap (λ l. ofList l .after) e, ap (λ l. ofList l .recomputed) e, ap (λ l. ofList l .entries) e);
-}
-list-runs s (asRecords records) scratch = record {
-  refused = λ d. let e = entries-refused s scratch records d in (ap (λ l. ofRecords l .answer) e, ap (λ l. ofRecords l .after) e);
-  taken = λ z.
-      let e = entries-taken s scratch records z in
-      (ap (λ l. ofRecords l .answer) e, ap (λ l. ofRecords l .after) e, ap (λ l. ofRecords l .recomputed) e, ap (λ l. ofRecords l .entries) e);
-}
+list-refused s (inRow numbers) scratch d = ap (ofList inRow) (call-refused s scratch numbers (wanted numbers) refl d)
+list-refused s (asRecords records) scratch d = ap (ofList asRecords) (entries-refused s scratch records d)
+
+list-runs : (s : State) (entries : Entries) (scratch : List ℕ) → refusalOf s scratch (room entries) ≡ 0 → let run = listOf s (room entries) in
+    effect s (list entries scratch) ≡ record {
+      answer = 0;
+      after = ranOf s (room entries);
+      recomputed = run .recomputed;
+      entries = filledWith (run .kept) entries;
+      scratch = replicate (size s) 0 ++ drop (size s) scratch;
+    }
+unfolding effect
+list-runs s (inRow numbers) scratch z = ap (ofList inRow) (call-taken s scratch numbers (wanted numbers) refl z)
+list-runs s (asRecords records) scratch z = ap (ofList asRecords) (entries-taken s scratch records z)
 
 module _ (s : State) (g : Graph) (h : Sound (size s) g s) (entries : Entries) (scratch : List ℕ) where
   abbrev k : ℕ
   k = room entries
 
   abbrev run : Progress
-  run = runOf s k
+  run = listOf s k
 
   -- the model's refusal
   abbrev asked : ℕ
-  asked = refusal (listConditions (size s) g k scratch)
+  asked = refusal (listConditions (size s) g k (length scratch))
 
   same : refusalOf s scratch k ≡ asked
   same =
-      lengths-pass s (listConditions (size s) (graph s) k scratch) (h .shows .fits)
+      lengths-pass s (listConditions (size s) (graph s) k (length scratch)) (h .shows .fits)
       ∙ rw (before-agree (size s) (graph s) g everyone everyone (h .shows .links) (λ p l. refl))
 
   module _ (z : asked ≡ 0) where
     right : Right (score (graph s) (size s)) (s .figures) (s .marks) k run
     right =
-        let m = list-accepted (size s) g k scratch z in
-        listed-right (score (graph s) (size s)) k (s .figures) (s .marks) (m .0) (m .1) (omega (arith, h .shows .fits .marksFit)) (h .honest)
+        let m = conditions-pass (size s) g k (length scratch) z in
+        all-steps-right (score (graph s) (size s)) k (s .figures) (s .marks) (m .some) (m .within) (omega (arith, h .shows .fits .marksFit)) (h .honest)
 
-    kept-best : run .kept ≡ best (size s) g k
-    kept-best = right .kept ∙ ap (take k) (ranking-ext (score (graph s) (size s)) (score g (size s)) (size s) (λ p l. sound-score h p l))
+    kept-first : run .kept ≡ firstOf (size s) g k
+    kept-first = right .kept ∙ ap (take k) (ranking-ext (score (graph s) (size s)) (score g (size s)) (size s) (λ p l. sound-score h p l))
 
     abbrev chosen : ℕ → Bool
-    chosen p = out s (best (size s) g k) p
+    chosen = worksOut (s .figures) (s .marks) (firstOf (size s) g k)
 
     figure-is : (p : ℕ) → p < size s → getD (run .figures) p 0 ≡ cond (chosen p) (score g (size s) p) (figure s p)
-    figure-is p l = rw (kept-best, sound-score h p l) at (right .figuresAre p l)
+    figure-is p l = rw (kept-first, sound-score h p l) at (right .figuresAre p l)
 
     mark-is : (p : ℕ) → p < size s → stale (run .marks) p ≡ (isStale s p && not (chosen p))
-    mark-is p l = rw kept-best at (right .marksAre p l)
+    mark-is p l = rw kept-first at (right .marksAre p l)
 
     list-sound : Sound (size s) g (ranOf s k)
     list-sound = record {
       shows = record {
-        nodes = listed-figures _ k (s .figures) (s .marks);
-        fits = rw (listed-marks (score (graph s) (size s)) k (s .figures) (s .marks)) (h .shows .fits);
+        nodes = all-steps-figures _ k (s .figures) (s .marks);
+        fits = rw (all-steps-marks (score (graph s) (size s)) k (s .figures) (s .marks)) (h .shows .fits);
         links = h .shows .links;
       };
       honest = record {
@@ -119,7 +105,7 @@ module _ (s : State) (g : Graph) (h : Sound (size s) g s) (entries : Entries) (s
     }
       where
         below : (p : ℕ) → p < length (run .figures) → p < size s
-        below p l = omega (arith, listed-figures (score (graph s) (size s)) k (s .figures) (s .marks))
+        below p l = omega (arith, all-steps-figures (score (graph s) (size s)) k (s .figures) (s .marks))
 
         settled : (p : ℕ) → p < size s → stale (run .marks) p ≡ false → getD (run .figures) p 0 ≡ score (graph s) (size s) p
         settled p l e = elim (test (chosen p)) [
@@ -133,19 +119,16 @@ module _ (s : State) (g : Graph) (h : Sound (size s) g s) (entries : Entries) (s
           | inr w ↦ rw (figure-is p l, w) (h .honest .above p l)
         ]
 
-  abbrev runs : Runs s entries scratch
-  runs = list-runs s entries scratch
-
   pub list-answers : answer s (list entries scratch) ≡ asked
   list-answers = elim (ℕ-discrete asked 0) [
-    | yes z ↦ runs .taken (same ∙ z) .0 ∙ sym z
-    | no d ↦ runs .refused (λ e. d (sym same ∙ e)) .0 ∙ same
+    | yes z ↦ ap (λ e. e .answer) (list-runs s entries scratch (same ∙ z)) ∙ sym z
+    | no d ↦ ap (λ e. e .answer) (list-refused s entries scratch (λ e. d (sym same ∙ e))) ∙ same
   ]
 
-  pub list-stays : Sound (size s) g (after s (list entries scratch))
+  pub list-stays : Sound (size s) g (stateAfter s (list entries scratch))
   list-stays = elim (ℕ-discrete asked 0) [
-    | yes z ↦ rw (runs .taken (same ∙ z) .1) (list-sound z)
-    | no d ↦ rw (runs .refused (λ e. d (sym same ∙ e)) .1) h
+    | yes z ↦ rw (ap (λ e. e .after) (list-runs s entries scratch (same ∙ z))) (list-sound z)
+    | no d ↦ rw (ap (λ e. e .after) (list-refused s entries scratch (λ e. d (sym same ∙ e)))) h
   ]
 
   -- an accepted list
@@ -154,20 +137,23 @@ module _ (s : State) (g : Graph) (h : Sound (size s) g s) (entries : Entries) (s
     zero-asked = sym list-answers ∙ e
 
     abbrev done : State
-    done = after s (list entries scratch)
+    done = stateAfter s (list entries scratch)
+
+    taken : refusalOf s scratch k ≡ 0
+    taken = same ∙ zero-asked
 
     ran : done ≡ ranOf s k
-    ran = runs .taken (same ∙ zero-asked) .1
+    ran = ap (λ e. e .after) (list-runs s entries scratch taken)
 
-    pub list-first : effect s (list entries scratch) .entries ≡ holding (best (size s) g k) entries
-    list-first = runs .taken (same ∙ zero-asked) .3 ∙ ap (λ xs. holding xs entries) (kept-best zero-asked)
+    pub list-first : effect s (list entries scratch) .entries ≡ filledWith (firstOf (size s) g k) entries
+    list-first = ap (λ e. e .entries) (list-runs s entries scratch taken) ∙ ap (λ xs. filledWith xs entries) (kept-first zero-asked)
 
-    pub list-worked : effect s (list entries scratch) .recomputed ≡ countTo (out s (best (size s) g k)) (size s)
-    list-worked = runs .taken (same ∙ zero-asked) .2 ∙ right zero-asked .recomputed ∙ rw (kept-best zero-asked)
+    pub list-worked : effect s (list entries scratch) .recomputed ≡ countTo (worksOut (s .figures) (s .marks) (firstOf (size s) g k)) (size s)
+    list-worked = ap (λ e. e .recomputed) (list-runs s entries scratch taken) ∙ right zero-asked .recomputed ∙ rw (kept-first zero-asked)
 
-    pub list-settles : (p : ℕ) → p < size s → out s (best (size s) g k) p ≡ true
+    pub list-settles : (p : ℕ) → p < size s → worksOut (s .figures) (s .marks) (firstOf (size s) g k) p ≡ true
         → (isStale done p ≡ false) × (figure done p ≡ score g (size s) p)
     list-settles p l w = rw ran (mark-is zero-asked p l ∙ rw w (and-comm (isStale s p) false), figure-is zero-asked p l ∙ rw w)
 
-    pub list-others : (p : ℕ) → p < size s → out s (best (size s) g k) p ≡ false → Unaltered s done p
+    pub list-others : (p : ℕ) → p < size s → worksOut (s .figures) (s .marks) (firstOf (size s) g k) p ≡ false → Unaltered s done p
     list-others p l w = rw ran (mark-is zero-asked p l ∙ rw w (and-comm (isStale s p) true), figure-is zero-asked p l ∙ rw w)

@@ -1,11 +1,10 @@
 -- Spare bits in a history are as 01 says. Assumes nothing.
 use mathlib.Core.Bool.{false, true, true≢false}
 use mathlib.Core.Path.{ap, refl, sym, _≡_}
-use Prim.Native.Nat.{ℕ}
 use Rattle.calls.proofs.Spare.{AlikeOutcome, clear-alike, load-alike, score-alike, write-alike}
 use Rattle.calls.proofs.SpareZero.{clear-zero, load-zero}
 use Rattle.edits.proofs.Spare.{add-alike, add-spare, remove-alike, remove-spare}
-use Rattle.history.specs.History.{after, answer, effect, ofState, starts}
+use Rattle.history.specs.History.{stateAfter, answer, effect, ofState, starts}
 use Rattle.history.specs.Model.{add, asRecords, Call, clear, inRow, list, load, reconcile, remove}
 use Rattle.history.specs.Spare.{AlikeCalls, AlikeEffects, reconciling, same, SpareBits}
 use Rattle.listing.proofs.Spare.{entries-alike, entries-spare}
@@ -39,7 +38,7 @@ module _ (s t : State) (h : Alike s t) where
   calls-alike (same call) = call-alike call
   calls-alike (reconciling theirs base) = of-state (reconcile-alike h theirs base)
 
-zeroed : (s : State) (call : Call) → starts call ≡ true → answer s call ≡ 0 → SpareZero (after s call)
+zeroed : (s : State) (call : Call) → starts call ≡ true → answer s call ≡ 0 → SpareZero (stateAfter s call)
 unfolding effect
 zeroed s clear e z = clear-zero s z
 zeroed s (load snapshot) e z = load-zero s snapshot z
@@ -48,7 +47,7 @@ zeroed s (remove a b) e z = absurd (true≢false (sym e))
 zeroed s (reconcile theirs base) e z = absurd (true≢false (sym e))
 zeroed s (list entries scratch) e z = absurd (true≢false (sym e))
 
-kept : (s : State) (call : Call) → starts call ≡ false → SpareKept s (after s call)
+kept : (s : State) (call : Call) → starts call ≡ false → SpareKept s (stateAfter s call)
 unfolding effect
 kept s clear e = absurd (true≢false e)
 kept s (load snapshot) e = absurd (true≢false e)

@@ -7,14 +7,13 @@ use Prim.Native.Nat.{_<_, ℕ}
 use native.Mathlib.Decide.{ℕ-discrete}
 use native.Mathlib.Omega.{arith}
 use borrow.Author.Tests.{eq-eqb, lt-ltb, ne-eqb}
-use lib.Dec.{eqb}
 use lib.ListN.{length}
 use Rattle.ego.proofs.Agreement.{Agree, agree-sym, agree-trans}
 use Rattle.ego.proofs.WithPair.{pair-agree}
 use Rattle.ego.specs.Change.{withPair}
 use Rattle.ego.specs.Graph.{Graph}
 use Rattle.history.proofs.ListStep.{list-answers, list-stays}
-use Rattle.history.specs.History.{after, answer, effect, ofState, Unaltered}
+use Rattle.history.specs.History.{stateAfter, answer, effect, ofState, Unaltered}
 use Rattle.history.specs.Model.{add, below, Call, clear, conditions, Entries, list, load, model, modelRefusal, ownConditions, reconcile, remove, wouldHold}
 use Rattle.merge.proofs.MergeLaws.{merged-is, reconcile-agree, reconciled-sound}
 use Rattle.merge.specs.Reconcile.{merged, reconcileCall, reconcileConditions, reconciled}
@@ -59,21 +58,21 @@ module _ (s : State) (fits : Fits s) (g : Graph) (call : Call) (cs : List Condit
   pub call-answer : answer s call ≡ asked
   call-answer = ap (λ e. e .answer) is ∙ outcome-refusal (lengths s ++ cs) s t ∙ tested
 
-  call-taken : asked ≡ 0 → after s call ≡ t
+  call-taken : asked ≡ 0 → stateAfter s call ≡ t
   call-taken z = ap (λ e. e .after) is ∙ outcome-accepted (lengths s ++ cs) s t (tested ∙ z)
 
-  call-refused : (asked ≡ 0 → ⊥) → after s call ≡ s
+  call-refused : (asked ≡ 0 → ⊥) → stateAfter s call ≡ s
   call-refused d = ap (λ e. e .after) is ∙ outcome-refused (lengths s ++ cs) s t (λ z. d (sym tested ∙ z))
 
   -- the state is left, or is t
-  pub call-leaves : (P : State → Type 0) → (refusal (ownConditions (size s) g call) ≡ 0 → P t) → ((asked ≡ 0 → ⊥) → P s) → P (after s call)
+  pub call-leaves : (P : State → Type 0) → (refusal (ownConditions (size s) g call) ≡ 0 → P t) → ((asked ≡ 0 → ⊥) → P s) → P (stateAfter s call)
   call-leaves P new old = elim (ℕ-discrete asked 0) [
     | yes z ↦ rw (call-taken z) (new (sym (asked-own s g call fits) ∙ z))
     | no d ↦ rw (call-refused d) (old d)
   ]
 
   pub call-sound : (refusal (ownConditions (size s) g call) ≡ 0 → Sound (size s) (wouldHold g call) t) → ((asked ≡ 0 → ⊥) → Sound (size s) g s)
-      → Sound (size s) (model (size s) g call) (after s call)
+      → Sound (size s) (model (size s) g call) (stateAfter s call)
   unfolding model
   call-sound new old = elim (ℕ-discrete asked 0) [
     | yes z ↦ rw (eq-eqb asked 0 z, call-taken z) (sound-agree (below-agree (size s) (wouldHold g call)) (new (sym (asked-own s g call fits) ∙ z)))
@@ -114,7 +113,7 @@ module _ (s : State) (g : Graph) (fits : Fits s) where
   pub clear-answer : answer s clear ≡ modelRefusal n g clear
   clear-answer = call-answer s fits g clear [] (cleared n) (clear-is s) clear-same
 
-  pub clear-sound : Sound n (model n g clear) (after s clear)
+  pub clear-sound : Sound n (model n g clear) (stateAfter s clear)
   unfolding wouldHold
   clear-sound = call-sound s fits g clear [] (cleared n) (clear-is s) clear-same
       (λ z. cleared-sound n (fits .sizes .some) (fits .sizes .few)) (λ d. absurd (d (asked-own s g clear fits ∙ sym clear-same ∙ refusal-none)))
@@ -127,7 +126,7 @@ module _ (s : State) (g : Graph) (fits : Fits s) where
     unfolding wouldHold ownConditions
     load-took z = loaded-sound n (fits .sizes .some) (fits .sizes .few) (snapshotEdges snapshot) (load-accepted n snapshot z)
 
-    pub load-sound : ((modelRefusal n g (load snapshot) ≡ 0 → ⊥) → Sound n g s) → Sound n (model n g (load snapshot)) (after s (load snapshot))
+    pub load-sound : ((modelRefusal n g (load snapshot) ≡ 0 → ⊥) → Sound n g s) → Sound n (model n g (load snapshot)) (stateAfter s (load snapshot))
     load-sound = call-sound s fits g (load snapshot) _ _ (load-is s snapshot g) refl load-took
 
 -- ---- the calls on a sound state
@@ -188,10 +187,10 @@ module _ (s : State) (g : Graph) (h : Sound (size s) g s) where
     unfolding wouldHold
     remove-took z = removed-sound a b (remove-named z) h
 
-    pub add-sound : Sound (size s) (model (size s) g (add a b)) (after s (add a b))
+    pub add-sound : Sound (size s) (model (size s) g (add a b)) (stateAfter s (add a b))
     add-sound = call-sound s fits g (add a b) addTests (added s a b) add-is add-same add-took (λ d. h)
 
-    pub remove-sound : Sound (size s) (model (size s) g (remove a b)) (after s (remove a b))
+    pub remove-sound : Sound (size s) (model (size s) g (remove a b)) (stateAfter s (remove a b))
     remove-sound = call-sound s fits g (remove a b) removeTests (removed s a b) remove-is remove-same remove-took (λ d. h)
 
     -- a node that is neither an end nor a common neighbour is as it was
@@ -199,12 +198,12 @@ module _ (s : State) (g : Graph) (h : Sound (size s) g s) where
       apart : {on : Bool} → Named (size s) g a b on → touched (graph s) a b p ≡ false
       apart d = touched-agree a b (d .first) (d .second) links p l ∙ u
 
-      pub add-untouched : Unaltered s (after s (add a b)) p
+      pub add-untouched : Unaltered s (stateAfter s (add a b)) p
       unfolding added
       add-untouched = call-leaves s fits g (add a b) addTests (added s a b) add-is add-same (λ t. Unaltered s t p)
           (λ z. let e = apart (add-named z) in edited-kept s a b true (ends a b) (marks-room fits) p l (untouched-end (graph s) a b p e) e) (λ d. (refl, refl))
 
-      pub remove-untouched : Unaltered s (after s (remove a b)) p
+      pub remove-untouched : Unaltered s (stateAfter s (remove a b)) p
       unfolding removed
       remove-untouched = call-leaves s fits g (remove a b) removeTests (removed s a b) remove-is remove-same (λ t. Unaltered s t p)
           (λ z. let e = apart (remove-named z) in edited-kept s a b false (touched (graph s) a b) (marks-room fits) p l e e) (λ d. (refl, refl))
@@ -228,7 +227,7 @@ module _ (s : State) (g : Graph) (h : Sound (size s) g s) where
     pub reconcile-answer : answer s (reconcile theirs base) ≡ modelRefusal (size s) g (reconcile theirs base)
     reconcile-answer = call-answer s fits g (reconcile theirs base) tests (reconciled s theirs base) reconcile-is reconcile-same
 
-    pub reconcile-sound : Sound (size s) (model (size s) g (reconcile theirs base)) (after s (reconcile theirs base))
+    pub reconcile-sound : Sound (size s) (model (size s) g (reconcile theirs base)) (stateAfter s (reconcile theirs base))
     reconcile-sound = call-sound s fits g (reconcile theirs base) tests (reconciled s theirs base) reconcile-is reconcile-same
         (λ z. sound-agree merged-links (reconciled-sound s theirs base (sound-agree (agree-sym links) h))) (λ d. h)
 
@@ -237,7 +236,7 @@ module _ (s : State) (g : Graph) (h : Sound (size s) g s) where
     unfolding ownConditions
     list-answer = list-answers s g h entries scratch ∙ sym (asked-own s g (list entries scratch) fits)
 
-    pub list-sound : Sound (size s) (model (size s) g (list entries scratch)) (after s (list entries scratch))
+    pub list-sound : Sound (size s) (model (size s) g (list entries scratch)) (stateAfter s (list entries scratch))
     unfolding model wouldHold
     list-sound = elim (ℕ-discrete (modelRefusal (size s) g (list entries scratch)) 0) [
       | yes z ↦ rw (eq-eqb _ 0 z) (sound-agree (below-agree (size s) g) (list-stays s g h entries scratch))

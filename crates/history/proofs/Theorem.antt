@@ -6,16 +6,17 @@ use Prim.Native.Nat.{ℕ}
 use Rattle.ego.specs.Graph.{Graph}
 use Rattle.history.proofs.ListStep.{list-first, list-others, list-settles, list-worked}
 use Rattle.history.proofs.Steps.{add-answer, add-sound, add-untouched, clear-answer, clear-fits, clear-sound, list-answer, list-sound, load-answer, load-fits, load-sound, reconcile-answer, reconcile-sound, remove-answer, remove-sound, remove-untouched}
-use Rattle.history.specs.History.{after, answer, Demand3, edits, effect, firstK, links, nodes, others, Promise, Promises, refusal, Says, Sentence, settled, settles, stale, starts, worked}
+use Rattle.history.specs.History.{stateAfter, answer, Demand3, edits, effect, firstK, links, nodes, others, Promise, Promises, refusal, Says, Sentence, settled, settles, stale, starts, worked}
 use Rattle.history.specs.Model.{add, Call, clear, list, load, model, modelRefusal, noPairs, reconcile, remove}
 use Rattle.edits.proofs.Sound.{Sound, sound-above, sound-settled}
 use Rattle.state.specs.State.{size, State}
 
 -- a call keeps its promise, and the invariant with it
 abbrev Stands : ℕ → State → Graph → Call → Type 0
-Stands n s g call = Sound n (model n g call) (after s call) × Promise n s g call (effect s call)
+Stands n s g call = Sound n (model n g call) (stateAfter s call) × Promise n s g call (effect s call)
 
-module _ (s : State) (g : Graph) (call : Call) (h : Sound (size s) (model (size s) g call) (after s call)) (r : answer s call ≡ modelRefusal (size s) g call) where
+module _ (s : State) (g : Graph) (call : Call) (h : Sound (size s) (model (size s) g call) (stateAfter s call))
+    (r : answer s call ≡ modelRefusal (size s) g call) where
   abbrev Said : Sentence → Type 0
   Said x = Says (size s) s g call (effect s call) x
 
@@ -71,10 +72,10 @@ promises : (n : ℕ) (s : State) (g : Graph) (calls : List Call) → Sound n g s
 promises n s g [] h = tt
 promises n s g (call ∷ calls) h =
     let r = subst (λ m. Sound m g s → Stands m s g call) (h .shows .nodes) (step s g call) h in
-    (r .1, promises n (after s call) (model n g call) calls (r .0))
+    (r .1, promises n (stateAfter s call) (model n g call) calls (r .0))
 
 -- DEMAND 3
 pub demand3 : Demand3
 demand3 s first calls e z =
     let r = begin s first e z in
-    (r .1, promises (size s) (after s first) (model (size s) noPairs first) calls (r .0))
+    (r .1, promises (size s) (stateAfter s first) (model (size s) noPairs first) calls (r .0))

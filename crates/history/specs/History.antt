@@ -1,9 +1,9 @@
 -- Demand 3: one statement about a whole history of calls. Assumes nothing.
 use mathlib.Core.Path.{_≡_}
 use mathlib.Core.Bool.{Bool, true, false}
-use mathlib.Core.List.{List, [], _∷_, _++_}
+use mathlib.Core.List.{List, [], _∷_}
 use Prim.Native.Nat.{ℕ, _≤_, _<_}
-use lib.ListN.{length, take, drop}
+use lib.ListN.{take}
 use Rattle.arith.specs.Sums.{countTo}
 use Rattle.ego.specs.Graph.{Graph}
 use Rattle.ego.specs.Score.{score}
@@ -14,11 +14,11 @@ use Rattle.calls.specs.Clear.{clearCall}
 use Rattle.calls.specs.Snapshot.{loadCall}
 use Rattle.edits.specs.Edit.{addCall, removeCall}
 use Rattle.merge.specs.Reconcile.{reconcileCall}
-use Rattle.topk.specs.Entries.{flat}
+use Rattle.topk.specs.Entries.{over}
 use Rattle.topk.specs.declared.entries.Entry.{Entry}
 use Rattle.topk.specs.List.{Listed, listCall}
-use Rattle.listing.specs.Records.{Recorded, entriesCall}
-use Rattle.topk.specs.Right.{ranking, worksOut}
+use Rattle.listing.specs.Records.{entriesCall}
+use Rattle.topk.specs.Ranking.{ranking, worksOut}
 use Rattle.history.specs.Model.{Call, clear, load, add, remove, reconcile, list, Entries, inRow, asRecords, room, noPairs, model, modelRefusal}
 
 -- What a call leaves: the refusal number that it answers, and the state; of a list also the worked count, the entries and the scratch.
@@ -32,11 +32,8 @@ pub record Effect : Type 0 where
 abbrev pub ofState : Outcome → Effect
 ofState o = record { answer = o .refusal; after = o .after; recomputed = 0; entries = inRow []; scratch = [] }
 
-abbrev pub ofList : Listed → Effect
-ofList l = record { answer = l .refusal; after = l .after; recomputed = l .recomputed; entries = inRow (l .entries); scratch = l .scratch }
-
-abbrev pub ofRecords : Recorded → Effect
-ofRecords l = record { answer = l .refusal; after = l .after; recomputed = l .recomputed; entries = asRecords (l .entries); scratch = l .scratch }
+abbrev pub ofList : {A : Type 0} → (List A → Entries) → Listed A → Effect
+ofList lent l = record { answer = l .refusal; after = l .after; recomputed = l .recomputed; entries = lent (l .entries); scratch = l .scratch }
 
 -- It is what the very definition gives that the public function's contract equals.
 unfoldable pub effect : State → Call → Effect
@@ -45,11 +42,11 @@ effect s (load snapshot) = ofState (loadCall s snapshot)
 effect s (add a b) = ofState (addCall s a b)
 effect s (remove a b) = ofState (removeCall s a b)
 effect s (reconcile theirs base) = ofState (reconcileCall s theirs base)
-effect s (list (inRow numbers) scratch) = ofList (listCall s numbers scratch)
-effect s (list (asRecords records) scratch) = ofRecords (entriesCall s records scratch)
+effect s (list (inRow numbers) scratch) = ofList inRow (listCall s numbers scratch)
+effect s (list (asRecords records) scratch) = ofList asRecords (entriesCall s records scratch)
 
-abbrev pub after : State → Call → State
-after s call = effect s call .after
+abbrev pub stateAfter : State → Call → State
+stateAfter s call = effect s call .after
 
 abbrev pub answer : State → Call → ℕ
 answer s call = effect s call .answer
@@ -57,17 +54,13 @@ answer s call = effect s call .answer
 -- ---- lists and edits
 
 -- the first k of all nodes by score, lower number first at a tie
-abbrev pub best : ℕ → Graph → ℕ → List Entry
-best n g k = take k (ranking (score g n) n)
-
--- node p is stale in s, and its stored figure, then number, ranks at or before the last of xs: a list that ends with xs works it out
-abbrev pub out : State → List Entry → ℕ → Bool
-out s xs p = worksOut (s .figures) (s .marks) xs p
+abbrev pub firstOf : ℕ → Graph → ℕ → List Entry
+firstOf n g k = take k (ranking (score g n) n)
 
 -- entries that hold xs: in a row, with what lies past them as it was lent; or as records, all of them
-abbrev pub holding : List Entry → Entries → Entries
-holding xs (inRow numbers) = inRow (flat xs ++ drop (length (flat xs)) numbers)
-holding xs (asRecords records) = asRecords xs
+abbrev pub filledWith : List Entry → Entries → Entries
+filledWith xs (inRow numbers) = inRow (over xs numbers)
+filledWith xs (asRecords records) = asRecords xs
 
 -- what is said of a list alone, by the entries that it is lent
 abbrev pub OfList : Call → (Entries → Type 0) → Type 0
@@ -108,14 +101,14 @@ Says n s g call e stale = (p : ℕ) → p < n → isStale (e .after) p ≡ true 
 -- Its refusal number is the model's.
 Says n s g call e refusal = e .answer ≡ modelRefusal n g call
 -- The entries of an accepted list are the first k of all nodes by those scores, lower number first at a tie, each with its score in grains;
-Says n s g call e firstK = OfList call (λ entries. e .answer ≡ 0 → e .entries ≡ holding (best n g (room entries)) entries)
+Says n s g call e firstK = OfList call (λ entries. e .answer ≡ 0 → e .entries ≡ filledWith (firstOf n g (room entries)) entries)
 -- its worked count is the number of nodes stale beforehand whose stored figure, then number, ranks at or before the last listed score and its number;
-Says n s g call e worked = OfList call (λ entries. e .answer ≡ 0 → e .recomputed ≡ countTo (out s (best n g (room entries))) n)
+Says n s g call e worked = OfList call (λ entries. e .answer ≡ 0 → e .recomputed ≡ countTo (worksOut (s .figures) (s .marks) (firstOf n g (room entries))) n)
 -- it settles those,
-Says n s g call e settles = OfList call (λ entries. e .answer ≡ 0 → (p : ℕ) → p < n → out s (best n g (room entries)) p ≡ true
+Says n s g call e settles = OfList call (λ entries. e .answer ≡ 0 → (p : ℕ) → p < n → worksOut (s .figures) (s .marks) (firstOf n g (room entries)) p ≡ true
     → (isStale (e .after) p ≡ false) × (figure (e .after) p ≡ score g n p))
 -- and alters no other node's figure or mark.
-Says n s g call e others = OfList call (λ entries. e .answer ≡ 0 → (p : ℕ) → p < n → out s (best n g (room entries)) p ≡ false
+Says n s g call e others = OfList call (λ entries. e .answer ≡ 0 → (p : ℕ) → p < n → worksOut (s .figures) (s .marks) (firstOf n g (room entries)) p ≡ false
     → Unaltered s (e .after) p)
 -- No add or removal alters the figure or mark of a node other than its two ends and their common neighbours.
 Says n s g call e edits = OfEdit call (λ a b. (p : ℕ) → p < n → touched g a b p ≡ false → Unaltered s (e .after) p)
@@ -129,7 +122,7 @@ Promise n s g call e = (x : Sentence) → Says n s g call e x
 -- Every call of a history, in order, each on the state that the one before it leaves.
 abbrev pub Promises : ℕ → State → Graph → List Call → Type 0
 Promises n s g [] = Unit {0}
-Promises n s g (call ∷ calls) = Promise n s g call (effect s call) × Promises n (after s call) (model n g call) calls
+Promises n s g (call ∷ calls) = Promise n s g call (effect s call) × Promises n (stateAfter s call) (model n g call) calls
 
 -- A history begins with a clear or a load that is accepted, on any state.
 abbrev pub starts : Call → Bool

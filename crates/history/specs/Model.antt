@@ -55,7 +55,7 @@ ownConditions n g (load snapshot) = loadConditions n snapshot
 ownConditions n g (add a b) = addConditions n g (wouldHold g (add a b)) a b
 ownConditions n g (remove a b) = removeConditions n g a b
 ownConditions n g (reconcile theirs base) = reconcileConditions n g (wouldHold g (reconcile theirs base)) theirs base
-ownConditions n g (list entries scratch) = listConditions n g (room entries) scratch
+ownConditions n g (list entries scratch) = listConditions n g (room entries) (length scratch)
 
 -- 1 stands before them all. 2 stands among them for the buffers that a call brings; for the state's own it cannot apply, and the model does not see
 -- them: the first call was accepted, so the state's lengths are those that n requires, and no call changes the length of what it is lent.

@@ -9,7 +9,7 @@ use Rattle.packed.specs.Pairs.{pairCount}
 use Rattle.state.specs.Spare.{Alike, SameBits, SpareKept, SpareZero}
 use Rattle.state.specs.State.{State, size}
 use Rattle.history.specs.Model.{Call, reconcile}
-use Rattle.history.specs.History.{Effect, effect, after, answer, starts}
+use Rattle.history.specs.History.{Effect, effect, stateAfter, answer, starts}
 
 -- The calls bring the same, but for spare bits of theirs and of the original.
 pub data AlikeCalls (n : ℕ) : Call → Call → Type 0 where
@@ -33,6 +33,6 @@ pub record SpareBits : Type 0 where
   pub written : (s t : State) (buffer : List ℕ) → Alike s t → writeCall s buffer ≡ writeCall t buffer
   pub scored : (x y : List ℕ) (n p : ℕ) → SameBits (pairCount n) x y → scoreCall x n p ≡ scoreCall y n p
   -- Clear and load set them to 0;
-  pub zeroed : (s : State) (call : Call) → starts call ≡ true → answer s call ≡ 0 → SpareZero (after s call)
+  pub zeroed : (s : State) (call : Call) → starts call ≡ true → answer s call ≡ 0 → SpareZero (stateAfter s call)
   -- every other call keeps them.
-  pub kept : (s : State) (call : Call) → starts call ≡ false → SpareKept s (after s call)
+  pub kept : (s : State) (call : Call) → starts call ≡ false → SpareKept s (stateAfter s call)

@@ -1,30 +1,32 @@
 -- Entries as records and in a row: the list of k entries, and a table's rows laid over entries that are lent. Assumes nothing.
+use mathlib.Core.Bool.{cond}
 use mathlib.Core.List.{_++_, [], append-assoc, append-nil, List, _∷_}
 use mathlib.Core.Path.{ap, refl, subst, sym, _∙_, _≡_}
 use Prim.Native.Nat.{_*_, _+_, _/_, _<_, min, suc, zero, zero-le, ℕ, _≤_}
 use native.Mathlib.Decide.{decLt, ℕ-discrete}
 use native.Mathlib.Nat.{le-refl}
 use native.Mathlib.Omega.{arith}
-use borrow.Author.Tests.{eq-eqb, lt-ltb, ltb-false, ne-eqb}
-use lib.Dec.{eqb, ltb}
-use lib.ListN.{drop, getD, length, length-set, replicate, set, take, take-append-drop}
-use lib.Seq.{drop-length, drop-set-lt, getD-drop, take-suc-set}
-use Rattle.arith.proofs.Tests.{or-false-both}
+use borrow.Author.Tests.{eq-eqb, lt-ltb, ne-eqb}
+use lib.Dec.{eqb}
+use lib.ListN.{drop, getD, length, length-set, set, take, take-append-drop}
+use lib.Seq.{drop-length, drop-set-lt, getD-drop, length-take-le, take-suc-set}
 use Rattle.ego.specs.Score.{score}
 use Rattle.state.proofs.RefusalLaws.{append-refused, Fitted}
-use Rattle.calls.proofs.AcceptLaws.{lengths-fit, lengths-pass, passes}
-use Rattle.state.specs.Outcome.{lengths, state}
-use Rattle.state.specs.Refusal.{Condition, crowdedBefore, everyone, listLength, refusal, scratchLength}
+use Rattle.calls.proofs.AcceptLaws.{lengths-fit, lengths-pass}
+use Rattle.state.specs.Outcome.{lengths}
 use Rattle.state.specs.State.{graph, size, State}
-use Rattle.topk.proofs.Full.{listed-length}
+use Rattle.state.specs.Refusal.{Condition, crowdedBefore, everyone, listLength, refusal, scratchLength}
+use Rattle.topk.proofs.Full.{all-steps-length}
 use Rattle.topk.proofs.LayoutLaws.{entriesOf-flat, length-flat}
-use Rattle.topk.specs.Entries.{entry, flat}
+use Rattle.topk.specs.Entries.{entry, flat, entriesOf}
 use Rattle.topk.specs.declared.entries.Entry.{Entry}
-use Rattle.topk.specs.Layout.{entriesOf}
-use Rattle.topk.specs.List.{accepted, listCall, listConditions, listing, Listed, wanted}
-use Rattle.listing.specs.Records.{entriesCall, entryIn, Gathered, laid, Recorded, recording, rows}
-use Rattle.topk.specs.Steps.{listed, Progress}
+use Rattle.topk.proofs.ListLaws.{acceptedOf, call-passed, call-refusal, call-refused, call-taken, refusalOf}
+use Rattle.topk.specs.List.{listCall, listConditions, listing, Listed, listOf, wanted}
+use Rattle.listing.specs.Records.{entriesCall}
+use Rattle.listing.specs.inside.Table.{entryIn, Gathered, laid, rows}
+use Rattle.topk.specs.Steps.{Progress}
 use Rattle.topk.specs.declared.list.Answer.{Answer}
+use Rattle.listing.specs.declared.records.Table.{Table}
 
 -- ---- entries in a row
 
@@ -44,15 +46,8 @@ entriesOf-snoc zero E = refl
 entriesOf-snoc (suc m) E =
     let a : 2 + 2 * m ≡ 2 * suc m = omega arith in
     let b : 2 + (2 * m + 1) ≡ 2 * suc m + 1 = omega arith in
-    ap {B = List Entry} (λ r. entry (getD E 0 0) (getD E 1 0) ∷ r) (entriesOf-snoc m (drop 2 E) ∙ rw (getD-drop 2 E (2 * m) 0, getD-drop 2 E (2 * m + 1) 0, a, b))
-
--- ---- a list of k entries: what it runs to, and the state that it leaves
-
-abbrev pub runOf : State → ℕ → Progress
-runOf s k = listed (score (graph s) (size s)) k (s .figures) (s .marks)
-
-abbrev pub ranOf : State → ℕ → State
-ranOf s k = state (s .edges) (runOf s k .figures) (runOf s k .marks)
+    ap {B =
+    List Entry} (λ r. entry (getD E 0 0) (getD E 1 0) ∷ r) (entriesOf-snoc m (drop 2 E) ∙ rw (getD-drop 2 E (2 * m) 0, getD-drop 2 E (2 * m + 1) 0, a, b))
 
 -- ---- the conditions, with k entries and with as many as a table has room for
 
@@ -75,16 +70,12 @@ module _ (s : State) (C : List ℕ) where
   crowded = crowdedBefore (graph s) n everyone ∷ []
 
   abbrev conditions : ℕ → List Condition
-  conditions k = listConditions n (graph s) k C
-
-  -- the refusal of a list of k entries
-  abbrev pub refusalOf : ℕ → ℕ
-  refusalOf k = refusal (lengths s ++ conditions k)
+  conditions k = listConditions n (graph s) k (length C)
 
   fit : refusal (lengths s) ≡ 0 → Fitted n (length (s .edges)) (length (s .marks))
   fit z = lengths-fit s [] (ap refusal (append-nil (lengths s)) ∙ z)
 
-  same-refusal : (k : ℕ) → refusalOf (min k rows) ≡ refusalOf k
+  same-refusal : (k : ℕ) → refusalOf s C (min k rows) ≡ refusalOf s C k
   same-refusal k = elim (ℕ-discrete (refusal (lengths s)) 0) [
     | yes z ↦
         let f = fit z in
@@ -95,49 +86,22 @@ module _ (s : State) (C : List ℕ) where
   ]
 
   -- an accepted list has as many nodes, and not more than a table has rows
-  most : (k : ℕ) → refusalOf k ≡ 0 → (k ≤ n) × (n < rows)
-  unfolding scratchLength listLength
-  most k z =
-      let f = lengths-fit s (conditions k) z in
-      let a = passes (scratchLength n (length C)) (listLength n k ∷ crowded) (λ e. omega arith) (sym (lengths-pass s (conditions k) f) ∙ z) in
-      let b = passes (listLength n k) crowded (λ e. omega arith) (a .1) in
-      (ltb-false n k (or-false-both (eqb k 0) (ltb n k) (b .0) .1), omega (arith, f .sizes .few))
-
-  -- ---- the list over plain buffers
+  most : (k : ℕ) → refusalOf s C k ≡ 0 → (k ≤ n) × (n < rows)
+  most k z = (call-passed s C k z .within, omega (arith, lengths-fit s (conditions k) z .sizes .few))
 
   abbrev run : ℕ → Progress
-  run = runOf s
-
-  abbrev pub done : ℕ → List ℕ → Listed
-  done k E = listing 0 (run k .recomputed) (ranOf s k) (flat (run k .kept) ++ drop (length (flat (run k .kept))) E) (replicate n 0 ++ drop n C)
-
-  call-answer : (E : List ℕ) → listCall s E C .refusal ≡ refusalOf (wanted E)
-  unfolding listCall accepted
-  call-answer E = elim (ℕ-discrete (refusalOf (wanted E)) 0) [
-    | yes z ↦ rw (eq-eqb (refusalOf (wanted E)) 0 z) (sym z)
-    | no d ↦ rw (ne-eqb (refusalOf (wanted E)) 0 d)
-  ]
-
-  pub call-refused : (E : List ℕ) (k : ℕ) → wanted E ≡ k → (refusalOf k ≡ 0 → ⊥) → listCall s E C ≡ listing (refusalOf k) 0 s E C
-  unfolding listCall
-  call-refused E k e d =
-      let f : refusalOf (wanted E) ≡ 0 → ⊥ = λ z. d (ap refusalOf (sym e) ∙ z) in
-      rw (ne-eqb (refusalOf (wanted E)) 0 f) (ap (λ (m : ℕ). listing (refusalOf m) 0 s E C) e)
-
-  pub call-taken : (E : List ℕ) (k : ℕ) → wanted E ≡ k → refusalOf k ≡ 0 → listCall s E C ≡ done k E
-  unfolding listCall accepted
-  call-taken E k e z =
-      let f : refusalOf (wanted E) ≡ 0 = ap refusalOf e ∙ z in
-      rw (eq-eqb (refusalOf (wanted E)) 0 f) (ap (λ (m : ℕ). done m E) e)
+  run = listOf s
 
   -- ---- the list over records
 
-  abbrev pub over-records : List Entry → Listed → Recorded
-  over-records xs l = recording (l .refusal) (l .recomputed) (l .after) xs (l .scratch)
+  abbrev pub over-records : List Entry → Listed ℕ → Listed Entry
+  over-records xs l = listing (l .refusal) (l .recomputed) (l .after) xs (l .scratch)
 
   -- the kept entries in a row, whatever lies past them
   kept-back : (k : ℕ) (R : List ℕ) → k ≤ n → entriesOf k (flat (run k .kept) ++ R) ≡ run k .kept
-  kept-back k R l = subst (λ (m : ℕ). entriesOf m (flat (run k .kept) ++ R) ≡ run k .kept) (listed-length (score (graph s) n) k (s .figures) (s .marks) l) (entriesOf-flat (run k .kept) R)
+  kept-back k R l =
+      subst (λ (m : ℕ). entriesOf m (flat (run k .kept) ++ R) ≡ run k .kept) (all-steps-length (score (graph s) n) k (s .figures) (s .marks) l)
+      (entriesOf-flat (run k .kept) R)
 
   laid-kept : (k : ℕ) (xs : List Entry) → length xs ≡ k → k ≤ n → (A R : List ℕ) → laid k ((flat (run k .kept) ++ A) ++ R) xs ≡ run k .kept
   laid-kept k xs l m A R =
@@ -148,56 +112,67 @@ module _ (s : State) (C : List ℕ) where
 
   module _ (xs : List Entry) where
     -- a refused call alters no entry
-    pub entries-refused : (refusalOf (length xs) ≡ 0 → ⊥) → entriesCall s xs C ≡ recording (refusalOf (length xs)) 0 s xs C
+    pub entries-refused : (refusalOf s C (length xs) ≡ 0 → ⊥) → entriesCall s xs C ≡ listing (refusalOf s C (length xs)) 0 s xs C
     unfolding entriesCall
     entries-refused d =
-        ap (λ (l : Listed). over-records (entriesOf (length xs) (l .entries)) l) (call-refused (flat xs) (length xs) (wanted-flat xs) d)
-        ∙ ap (λ (ys : List Entry). recording (refusalOf (length xs)) 0 s ys C) (flat-back xs)
+        ap (λ (l : Listed ℕ). over-records (entriesOf (length xs) (l .entries)) l) (call-refused s C (flat xs) (length xs) (wanted-flat xs) d)
+        ∙ ap (λ (ys : List Entry). listing (refusalOf s C (length xs)) 0 s ys C) (flat-back xs)
 
     -- an accepted one leaves the kept entries
-    pub entries-taken : refusalOf (length xs) ≡ 0 → entriesCall s xs C ≡ over-records (run (length xs) .kept) (done (length xs) (flat xs))
+    pub entries-taken : refusalOf s C (length xs) ≡ 0 → entriesCall s xs C ≡ over-records (run (length xs) .kept) (acceptedOf s C (length xs) (flat xs))
     unfolding entriesCall
     entries-taken z =
-        ap (λ (l : Listed). over-records (entriesOf (length xs) (l .entries)) l) (call-taken (flat xs) (length xs) (wanted-flat xs) z)
-        ∙ ap (λ (ys : List Entry). over-records ys (done (length xs) (flat xs))) (kept-back (length xs) _ (most (length xs) z .0))
+        ap (λ (l : Listed ℕ). over-records (entriesOf (length xs) (l .entries)) l) (call-taken s C (flat xs) (length xs) (wanted-flat xs) z)
+        ∙ ap (λ (ys : List Entry). over-records ys (acceptedOf s C (length xs) (flat xs))) (kept-back (length xs) _ (most (length xs) z .0))
 
   -- ---- the table of a list of k entries
 
-  module _ (k : ℕ) (E : List ℕ) (e : length E ≡ 2 * min k rows) (a : Answer) (s′ : State) (E′ C′ : List ℕ)
-      (h : listing (a .refusal) (a .recomputed) s′ E′ C′ ≡ listCall s E C) where
+  module _ (k : ℕ) (N : List ℕ) (room : 2 * rows ≤ length N) {m : ℕ} (e : m ≡ min k rows) (a : Answer) (s′ : State) (E′ C′ : List ℕ)
+      (h : listing (a .refusal) (a .recomputed) s′ E′ C′ ≡ listCall s (take (2 * m) N) C) where
+    abbrev E : List ℕ
+    E = take (2 * m) N
+
+    abbrev tableOf : ℕ → Table
+    tableOf used = record { answer = a; used = used; numbers = E′ ++ drop (2 * m) N }
+
     wants : wanted E ≡ min k rows
-    wants = half (length E) (min k rows) e
+    wants = half (length E) (min k rows) (length-take-le (2 * m) N (omega arith) ∙ ap (λ (i : ℕ). 2 * i) e)
 
-    answers : a .refusal ≡ refusalOf k
-    answers = ap (λ (l : Listed). l .refusal) h ∙ call-answer E ∙ ap refusalOf wants ∙ same-refusal k
+    answers : a .refusal ≡ refusalOf s C k
+    answers = ap (λ (l : Listed ℕ). l .refusal) h ∙ call-refusal s C E ∙ ap (refusalOf s C) wants ∙ same-refusal k
 
-    pub gather-refused : (a .refusal ≡ 0 → ⊥) → (N : List ℕ) → Gathered s C k (record { answer = a; used = 0; numbers = N }) s′ C′
+    gather-refused : (a .refusal ≡ 0 → ⊥) → Gathered s C k (tableOf 0) s′ C′
     unfolding entriesOf
-    gather-refused d N = record {
+    gather-refused d = record {
       fits = zero-le;
       small = zero-le;
       lists = λ xs l.
-          let f : refusalOf k ≡ 0 → ⊥ = λ z. d (answers ∙ z) in
-          ap (over-records xs) (h ∙ call-refused E (min k rows) wants (λ z. f (sym (same-refusal k) ∙ z)))
-          ∙ ap (λ (r : ℕ). recording r 0 s xs C) (same-refusal k ∙ ap refusalOf (sym l))
-          ∙ sym (entries-refused xs (λ z. f (ap refusalOf (sym l) ∙ z)));
+          let f : refusalOf s C k ≡ 0 → ⊥ = λ z. d (answers ∙ z) in
+          ap (over-records xs) (h ∙ call-refused s C E (min k rows) wants (λ z. f (sym (same-refusal k) ∙ z)))
+          ∙ ap (λ (r : ℕ). listing r 0 s xs C) (same-refusal k ∙ ap (refusalOf s C) (sym l))
+          ∙ sym (entries-refused xs (λ z. f (ap (refusalOf s C) (sym l) ∙ z)));
     }
 
-    pub gather-taken : a .refusal ≡ 0 → (R : List ℕ) → Gathered s C k (record { answer = a; used = k; numbers = E′ ++ R }) s′ C′
-    gather-taken z R =
-        let f : refusalOf k ≡ 0 = sym answers ∙ z in
-        let m = most k f in
+    gather-taken : a .refusal ≡ 0 → Gathered s C k (tableOf k) s′ C′
+    gather-taken z =
+        let f : refusalOf s C k ≡ 0 = sym answers ∙ z in
+        let t = most k f in
         let w : wanted E ≡ k = omega (arith, wants) in
-        let rest : List ℕ = drop (length (flat (run k .kept))) E in
         record {
           fits = le-refl k;
           small = omega arith;
           lists = λ xs l.
-              ap (λ (p : Listed). over-records (laid k (p .entries ++ R) xs) p) (h ∙ call-taken E k w f)
-              ∙ ap (λ (ys : List Entry). over-records ys (done k E)) (laid-kept k xs l (m .0) rest R)
-              ∙ ap (λ (j : ℕ). over-records (run j .kept) (done j [])) (sym l)
-              ∙ sym (entries-taken xs (ap refusalOf l ∙ f));
+              ap (λ (p : Listed ℕ). over-records (laid k (p .entries ++ drop (2 * m) N) xs) p) (h ∙ call-taken s C E k w f)
+              ∙ ap (λ (ys : List Entry). over-records ys (acceptedOf s C k E)) (laid-kept k xs l (t .0) _ (drop (2 * m) N))
+              ∙ ap (λ (j : ℕ). over-records (run j .kept) (acceptedOf s C j [])) (sym l)
+              ∙ sym (entries-taken xs (ap (refusalOf s C) l ∙ f));
         }
+
+    pub gathers : {used : ℕ} → used ≡ cond (eqb (a .refusal) 0) k 0 → Gathered s C k (tableOf used) s′ C′
+    gathers u = elim (ℕ-discrete (a .refusal) 0) [
+      | yes z ↦ rw (u, eq-eqb (a .refusal) 0 z) (gather-taken z)
+      | no d ↦ rw (u, ne-eqb (a .refusal) 0 d) (gather-refused d)
+    ]
 
 -- ---- a table's rows, laid over the entries one by one
 

@@ -1,30 +1,21 @@
 -- The list over records keeps the spare bits, and does not depend on them. Assumes nothing.
 use mathlib.Core.List.{List}
-use mathlib.Core.Path.{ap, _≡_}
+use mathlib.Core.Path.{ap}
 use Prim.Native.Nat.{ℕ}
 use lib.ListN.{length}
 use Rattle.state.specs.Spare.{Alike, SpareKept}
 use Rattle.state.specs.State.{State}
-use Rattle.topk.proofs.Spare.{list-alike, list-spare}
-use Rattle.topk.specs.Entries.{flat}
+use Rattle.topk.proofs.Spare.{AlikeListed, list-alike, list-spare}
+use Rattle.topk.specs.Entries.{flat, entriesOf}
 use Rattle.topk.specs.declared.entries.Entry.{Entry}
-use Rattle.topk.specs.Layout.{entriesOf}
-use Rattle.listing.specs.Records.{entriesCall, Recorded}
-
--- what two lists leave differs in spare bits at most
-pub record AlikeRecorded (l m : Recorded) : Type 0 where
-  pub refusal : l .refusal ≡ m .refusal
-  pub recomputed : l .recomputed ≡ m .recomputed
-  pub after : Alike (l .after) (m .after)
-  pub entries : l .entries ≡ m .entries
-  pub scratch : l .scratch ≡ m .scratch
+use Rattle.listing.specs.Records.{entriesCall}
 
 pub entries-spare : (s : State) (entries : List Entry) (scratch : List ℕ) → SpareKept s (entriesCall s entries scratch .after)
 unfolding entriesCall
 entries-spare s entries scratch = list-spare s (flat entries) scratch
 
 pub entries-alike : {s t : State} → Alike s t → (entries : List Entry) (scratch : List ℕ)
-    → AlikeRecorded (entriesCall s entries scratch) (entriesCall t entries scratch)
+    → AlikeListed Entry (entriesCall s entries scratch) (entriesCall t entries scratch)
 unfolding entriesCall
 entries-alike h entries scratch =
     let plain = list-alike h (flat entries) scratch in

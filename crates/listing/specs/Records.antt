@@ -1,50 +1,14 @@
 -- The list call over entries that are lent as records. Assumes nothing.
-use mathlib.Core.List.{List, _++_}
-use mathlib.Core.Path.{_≡_}
-use Prim.Native.Nat.{ℕ, _+_, _*_, _≤_}
-use lib.ListN.{length, drop, getD}
-use Rattle.packed.specs.Pairs.{maxNodes}
+use mathlib.Core.List.{List}
+use Prim.Native.Nat.{ℕ}
+use lib.ListN.{length}
 use Rattle.state.specs.State.{State}
-use Rattle.topk.specs.Entries.{entry, flat}
+use Rattle.topk.specs.Entries.{flat, entriesOf}
 use Rattle.topk.specs.declared.entries.Entry.{Entry}
-use Rattle.topk.specs.Layout.{entriesOf}
-use Rattle.topk.specs.List.{listCall}
-use Rattle.listing.specs.declared.records.Table.{Table}
-
--- the refusal number, the count of nodes worked out, and everything lent as the call leaves it
-pub record Recorded : Type 0 where
-  pub refusal : ℕ
-  pub recomputed : ℕ
-  pub after : State
-  pub entries : List Entry
-  pub scratch : List ℕ
-
-abbrev pub recording : ℕ → ℕ → State → List Entry → List ℕ → Recorded
-recording refusal recomputed after entries scratch = record { refusal = refusal; recomputed = recomputed; after = after; entries = entries; scratch = scratch }
+use Rattle.topk.specs.List.{listCall, Listed, listing}
 
 -- The list over plain buffers with the lent entries in a row, which are then read back. k is the number of entries lent.
-unfoldable pub entriesCall : State → List Entry → List ℕ → Recorded
+unfoldable pub entriesCall : State → List Entry → List ℕ → Listed Entry
 entriesCall s entries scratch =
     let plain = listCall s (flat entries) scratch in
-    record { refusal = plain .refusal; recomputed = plain .recomputed; after = plain .after; entries = entriesOf (length entries) (plain .entries); scratch = plain .scratch }
-
--- ---- what the functions inside the call say
-
--- the entries that a table has room for: one more than there can be nodes
-abbrev pub rows : ℕ
-rows = maxNodes + 1
-
--- entry i of a buffer of numbers
-abbrev pub entryIn : List ℕ → ℕ → Entry
-entryIn numbers i = entry (getD numbers (2 * i) 0) (getD numbers (2 * i + 1) 0)
-
--- the first m entries of a buffer over entries that are lent
-abbrev pub laid : ℕ → List ℕ → List Entry → List Entry
-laid m numbers entries = entriesOf m numbers ++ drop m entries
-
--- a table of a list of k entries: whatever those hold, its own over them are what the call leaves
-pub record Gathered (s : State) (scratch : List ℕ) (k : ℕ) (t : Table) (after : State) (left : List ℕ) : Type 0 where
-  pub fits : t .used ≤ k
-  pub small : t .used ≤ rows
-  pub lists : (entries : List Entry) → length entries ≡ k
-      → recording (t .answer .refusal) (t .answer .recomputed) after (laid (t .used) (t .numbers) entries) left ≡ entriesCall s entries scratch
+    listing (plain .refusal) (plain .recomputed) (plain .after) (entriesOf (length entries) (plain .entries)) (plain .scratch)

@@ -3,11 +3,15 @@ use packed::edges::MAX_NODES;
 use topk::entries::Entry;
 use topk::list::Answer;
 use topk::list::list;
+ghost use mathlib.Core.Bool.{cond};
 ghost use mathlib.Core.Path.{_≡_};
 ghost use Prim.Native.Nat.{_*_, _<_, min};
+ghost use lib.Dec.{eqb};
 ghost use lib.ListN.{replicate};
-ghost use Rattle.state.specs.Outcome.{state};
-ghost use Rattle.listing.specs.Records.{recording, entriesCall, rows, entryIn, Gathered};
+ghost use Rattle.listing.specs.Records.{entriesCall};
+ghost use Rattle.listing.specs.inside.Table.{rows, entryIn, Gathered};
+ghost use Rattle.state.specs.Lent.{atEntry, atExit};
+ghost use Rattle.topk.specs.ListLent.{atListEntry, atListExit};
 
 // The entries that a table has room for: one more than there can be nodes.
 pub const ROWS: usize = MAX_NODES + 1;
@@ -33,6 +37,13 @@ fn rows_of(k: usize) -> usize
     if k < ROWS { k } else { ROWS }
 }
 
+// How many entries a list of k writes: none beside a refusal.
+fn used_of(refusal: u64, k: usize) -> usize
+    ensures { λ r. ⌜ r ≡ cond (eqb refusal 0) k 0 ⌝ }
+{
+    if refusal == 0 { k } else { 0 }
+}
+
 // The list of k entries, on plain numbers.
 fn gather(
     edges: &[u8],
@@ -41,28 +52,21 @@ fn gather(
     scratch: &mut [u8],
     k: usize,
 ) -> Table
-    ensures { λ r. ⌜ Gathered (state (now (edges .entry)) (now (figures .entry)) (now (marks .entry))) (now (scratch .entry)) k r (state (now (edges .entry)) (now (figures .exit)) (now (marks .exit))) (now (scratch .exit)) ⌝ }
+    ensures { λ r. ⌜ Gathered (atEntry edges figures marks) (now (scratch .entry)) k r (atExit edges figures marks) (now (scratch .exit)) ⌝ }
 {
     let mut numbers = blank();
     let end = 2 * rows_of(k);
     let answer = list(edges, figures, marks, &mut numbers[..end], scratch);
-    let refusal = answer.refusal;
-    if refusal != 0 {
-        return Table {
-            answer,
-            used: 0,
-            numbers,
-        };
-    }
+    let used = used_of(answer.refusal, k);
     Table {
         answer,
-        used: k,
+        used,
         numbers,
     }
 }
 
 // Entry i of a table.
-fn row(t: Table, i: usize) -> Entry
+fn table_entry(t: Table, i: usize) -> Entry
     requires { ⌜ i < rows ⌝ }
     ensures { λ r. ⌜ r ≡ entryIn (t .numbers) i ⌝ }
 {
@@ -82,13 +86,13 @@ pub fn list_entries(
     entries: &mut [Entry],
     scratch: &mut [u8],
 ) -> Answer
-    ensures { λ r. ⌜ recording (r .refusal) (r .recomputed) (state (now (edges .entry)) (now (figures .exit)) (now (marks .exit))) (now (entries .exit)) (now (scratch .exit)) ≡ entriesCall (state (now (edges .entry)) (now (figures .entry)) (now (marks .entry))) (now (entries .entry)) (now (scratch .entry)) ⌝ }
+    ensures { λ r. ⌜ atListExit r edges figures marks entries scratch ≡ atListEntry entriesCall edges figures marks entries scratch ⌝ }
 {
     let t = gather(edges, figures, marks, scratch, entries.len());
     let used = t.used;
     let mut i: usize = 0;
     while i < used {
-        entries[i] = row(t, i);
+        entries[i] = table_entry(t, i);
         i += 1;
     }
     t.answer

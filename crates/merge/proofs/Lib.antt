@@ -1,8 +1,9 @@
+pub mod AfterLaws
 pub mod BitOrder
-pub mod ChangeLaws
 pub mod MergeLaws
 pub mod PairOrder
 pub mod Single
 pub mod Spare
 pub mod StepLaws
+pub mod WalkLaws
 pub mod Way

@@ -6,7 +6,7 @@ use mathlib.Core.Path.{ap, refl, sym, _∙_, _≡_}
 use Prim.Native.Nat.{_+_, _<_, ℕ, _≤_}
 use native.Mathlib.Omega.{arith}
 use lib.ListN.{length}
-use Rattle.arith.proofs.Tests.{test}
+use Rattle.arith.proofs.Tests.{and-true, test}
 use Rattle.arith.specs.Rank.{before}
 use Rattle.ego.proofs.Agreement.{Agree}
 use Rattle.ego.proofs.FoundLaws.{simple-edges}
@@ -14,9 +14,10 @@ use Rattle.ego.proofs.WithPair.{pair-is}
 use Rattle.ego.proofs.Within.{Within}
 use Rattle.ego.specs.Change.{withPair}
 use Rattle.ego.specs.Graph.{Graph, Simple}
-use Rattle.merge.proofs.PairOrder.{halfway, halfway-within, over-pairs, over-same, over-some, some-same}
+use Rattle.merge.proofs.PairOrder.{halfway, halfway-within, over-pairs, over-same, over-some}
+use Rattle.merge.proofs.StepLaws.{taken-was}
 use Rattle.merge.specs.Reconcile.{adding, merged, overPairs, overRow, reconcileCall, reconcileConditions, reconciled, removing, takes}
-use Rattle.merge.specs.Steps.{stepped}
+use Rattle.merge.specs.inside.Steps.{stepped}
 use Rattle.packed.specs.Bits.{differ}
 use Rattle.packed.specs.Edges.{edge}
 use Rattle.packed.specs.Pairs.{pairCount}
@@ -31,40 +32,22 @@ use Rattle.state.specs.State.{graph, size, State}
 
 -- ---- one pair: theirs, the original, mine
 
--- a pair that is taken from mine was in mine
-gone-was : (t o m : Bool) → (differ t o && differ t m && not t) ≡ true → m ≡ true
-gone-was true true m e = absurd (true≢false (sym e))
-gone-was true false true e = absurd (true≢false (sym e))
-gone-was true false false e = absurd (true≢false (sym e))
-gone-was false true true e = refl
-gone-was false true false e = absurd (true≢false (sym e))
-gone-was false false m e = absurd (true≢false (sym e))
-
 -- mine without the pairs that are taken from it
 abbrev less : Bool → Bool → Bool → Bool
 less t o m = cond (differ t o && differ t m && not t) false m
 
--- a pair that is added to mine was not in mine
-come-was : (t o m : Bool) → (differ t o && differ t m && t) ≡ true → less t o m ≡ false
-come-was true true m e = absurd (true≢false (sym e))
-come-was true false true e = absurd (true≢false (sym e))
-come-was true false false e = refl
-come-was false true true e = absurd (true≢false (sym e))
-come-was false true false e = absurd (true≢false (sym e))
-come-was false false m e = absurd (true≢false (sym e))
-
 -- whether a pair is added is the same once the removals are made
-come-same : (t o m : Bool) → (differ t o && differ t (less t o m) && Bool·beq t true) ≡ (differ t o && differ t m && t)
-come-same true true m = refl
-come-same true false true = refl
-come-same true false false = refl
-come-same false true true = refl
-come-same false true false = refl
-come-same false false m = refl
+addition-same : (t o m : Bool) → (differ t o && differ t (less t o m) && Bool·beq t true) ≡ (differ t o && differ t m && t)
+addition-same true true m = refl
+addition-same true false true = refl
+addition-same true false false = refl
+addition-same false true true = refl
+addition-same false true false = refl
+addition-same false false m = refl
 
-is-gone : (t : Bool) → Bool·beq t false ≡ not t
-is-gone true = refl
-is-gone false = refl
+beq-false : (t : Bool) → Bool·beq t false ≡ not t
+beq-false true = refl
+beq-false false = refl
 
 -- taking where theirs differs from both is taking where it differs from the original
 taken : (t o m : Bool) → cond (differ t o && differ t m) t m ≡ cond (differ t o) t m
@@ -74,22 +57,6 @@ taken true false false = refl
 taken false true true = refl
 taken false true false = refl
 taken false false m = refl
-
-come-is : (t o m : Bool) → (differ t o && differ t m && t) ≡ true → cond (differ t o && differ t m) t m ≡ true
-come-is true true m e = absurd (true≢false (sym e))
-come-is true false true e = refl
-come-is true false false e = refl
-come-is false true true e = absurd (true≢false (sym e))
-come-is false true false e = absurd (true≢false (sym e))
-come-is false false m e = absurd (true≢false (sym e))
-
-stay-is : (t o m : Bool) → (differ t o && differ t m && t) ≡ false → cond (differ t o && differ t m) t m ≡ less t o m
-stay-is true true m e = refl
-stay-is true false true e = refl
-stay-is true false false e = absurd (true≢false e)
-stay-is false true true e = refl
-stay-is false true false e = refl
-stay-is false false m e = refl
 
 -- the editor who changed the pair decides, otherwise the original stands
 decides : (t o m : Bool) → cond (differ t o) t m ≡ cond (differ t o) t (cond (differ m o) m o)
@@ -107,6 +74,29 @@ merged-is mine theirs base a b = taken (theirs a b) (base a b) (mine a b)
 -- mine without the pairs that are removed
 unfoldable pub thinned : Graph → Graph → Graph → Graph
 thinned mine theirs base a b = cond (takes mine theirs base a b && not (theirs a b)) false (mine a b)
+
+-- what a change of a pair that is named keeps of a state and the graph that it shows
+pub record KeptByChange (n : ℕ) (P : Graph → State → Type 0) : Type 0 where
+  pub agree : (g g′ : Graph) (s : State) → Agree n g g′ → P g s → P g′ s
+  pub shows : (g : Graph) (s : State) → P g s → Shows n g s
+  pub adds : (g : Graph) (s : State) (a b : ℕ) → Named n g a b false → P g s → P (withPair g a b true) (added s a b)
+  pub removes : (g : Graph) (s : State) (a b : ℕ) → Named n g a b true → P g s → P (withPair g a b false) (removed s a b)
+
+pub shows-kept : (n : ℕ) → KeptByChange n (Shows n)
+shows-kept n = record {
+  agree = λ g g′ s. shows-agree;
+  shows = λ g s h. h;
+  adds = λ g s a b. added-shows a b;
+  removes = λ g s a b. removed-shows a b;
+}
+
+sound-kept : (n : ℕ) → KeptByChange n (Sound n)
+sound-kept n = record {
+  agree = λ g g′ s. sound-agree;
+  shows = λ g s h. h .shows;
+  adds = λ g s a b. added-sound a b;
+  removes = λ g s a b. removed-sound a b;
+}
 
 module _ (mine theirs base : Graph) where
   -- the additions where `on`, the removals elsewhere: the graph before them, the graph after them, and the change at a pair
@@ -128,9 +118,20 @@ module _ (mine theirs base : Graph) where
   chosen false a b = takes mine theirs base a b && not (theirs a b)
 
   pub chosen-was : (on : Bool) (a b : ℕ) → chosen on a b ≡ true → old on a b ≡ not on
-  unfolding thinned takes
-  chosen-was true a b = come-was (theirs a b) (base a b) (mine a b)
-  chosen-was false a b = gone-was (theirs a b) (base a b) (mine a b)
+  unfolding thinned
+  chosen-was true a b q =
+      let r = and-true (takes mine theirs base a b) (theirs a b) q in
+      rw (r .0, r .1) (taken-was mine theirs base a b (r .0) .1 ∙ ap not (r .1))
+  chosen-was false a b q = let r = and-true (takes mine theirs base a b) (not (theirs a b)) q in taken-was mine theirs base a b (r .0) .1 ∙ r .1
+
+  -- a pair that is added is there after the additions, and another is as before them
+  addition-is-there : (a b : ℕ) → chosen true a b ≡ true → merged mine theirs base a b ≡ true
+  unfolding merged
+  addition-is-there a b q = let r = and-true (takes mine theirs base a b) (theirs a b) q in rw (r .0) (r .1)
+
+  no-addition-is : (a b : ℕ) → chosen true a b ≡ false → merged mine theirs base a b ≡ thinned mine theirs base a b
+  unfolding merged thinned
+  no-addition-is a b q = elim (test (takes mine theirs base a b)) [ inl t ↦ let u : theirs a b ≡ false = rw t at q in rw (t, u) | inr t ↦ rw t ]
 
   -- each graph on the way lies within mine during the removals, and within the merged graph during the additions
   abbrev pub cover : Bool → Graph
@@ -138,10 +139,10 @@ module _ (mine theirs base : Graph) where
   cover false = mine
 
   pub way-within : (n : ℕ) (on : Bool) (i : ℕ) → Within n (halfway (new on) (old on) i) (cover on)
-  unfolding thinned merged takes
+  unfolding thinned
   way-within n true i = halfway-within i (λ a b ha hb t. t) (λ a b ha hb t. elim (test (chosen true a b)) [
-    | inl q ↦ come-is (theirs a b) (base a b) (mine a b) q
-    | inr q ↦ stay-is (theirs a b) (base a b) (mine a b) q ∙ t
+    | inl q ↦ addition-is-there a b q
+    | inr q ↦ no-addition-is a b q ∙ t
   ])
   way-within n false i = halfway-within i (λ a b ha hb t. elim (test (chosen false a b)) [
     | inl q ↦ absurd (true≢false (sym (rw q at t)))
@@ -156,7 +157,7 @@ module _ (mine theirs base : Graph) where
       loopless = λ a. rw (m .loopless a, t .loopless a, o .loopless a);
     }
 
-    merged-simple : Simple (merged mine theirs base)
+    pub merged-simple : Simple (merged mine theirs base)
     unfolding merged takes
     merged-simple = record {
       symmetric = λ a b. rw (m .symmetric a b, t .symmetric a b, o .symmetric a b);
@@ -173,54 +174,51 @@ module _ (mine theirs base : Graph) where
 
   -- ---- the state
 
-  module _ (n : ℕ) (P : Graph → State → Type 0) (agree : (g g′ : Graph) (s : State) → Agree n g g′ → P g s → P g′ s) (shows : (g : Graph) (s : State) → P g s → Shows n g s)
-      (adds : (g : Graph) (s : State) (a b : ℕ) → Named n g a b false → P g s → P (withPair g a b true) (added s a b))
-      (removes : (g : Graph) (s : State) (a b : ℕ) → Named n g a b true → P g s → P (withPair g a b false) (removed s a b)) where
+  module _ (n : ℕ) (P : Graph → State → Type 0) (k : KeptByChange n P) where
     -- the pair set as it stands
     stays : (g : Graph) (s : State) (a b : ℕ) → a < n → b < n → (on : Bool) → g a b ≡ on → P g s → P (withPair g a b on) s
     stays g s a b ha hb on e p =
-        agree g (withPair g a b on) s (λ x y hx hy. pair-is g g a b on x y (λ q r. rw (q, r) e) (λ q r. rw (q, r) (shows-symmetric (shows g s p) b a hb ha ∙ e)) (λ q r. refl)) p
+        k .agree g (withPair g a b on) s
+        (λ x y hx hy. pair-is g g a b on x y (λ q r. rw (q, r) e) (λ q r. rw (q, r) (shows-symmetric (k .shows g s p) b a hb ha ∙ e)) (λ q r. refl)) p
 
-    does : (on : Bool) (a b : ℕ) → a < b → b < n → (g : Graph) (s : State) → g a b ≡ old on a b → P g s → P (withPair g a b (new on a b)) (taking on a b s)
-    unfolding thinned merged takes
-    does true a b h l g s e p = elim (test (takes mine theirs base a b && theirs a b)) [
-      | inl q ↦ rw (q, come-is (theirs a b) (base a b) (mine a b) q)
-          (adds g s a b (record { first = omega arith; second = l; two = λ z. omega arith; was = e ∙ come-was (theirs a b) (base a b) (mine a b) q }) p)
-      | inr q ↦ rw (q, stay-is (theirs a b) (base a b) (mine a b) q) (stays g s a b (omega arith) l _ e p)
+    pair-done : (on : Bool) (a b : ℕ) → a < b → b < n → (g : Graph) (s : State) → g a b ≡ old on a b → P g s → P (withPair g a b (new on a b)) (taking on a b s)
+    unfolding thinned
+    pair-done true a b h l g s e p = elim (test (takes mine theirs base a b && theirs a b)) [
+      | inl q ↦ rw (q, addition-is-there a b q)
+          (k .adds g s a b (record { first = omega arith; second = l; two = λ z. omega arith; was = e ∙ chosen-was true a b q }) p)
+      | inr q ↦ rw (q, no-addition-is a b q) (stays g s a b (omega arith) l _ e p)
     ]
-    does false a b h l g s e p = elim (test (takes mine theirs base a b && not (theirs a b))) [
-      | inl q ↦ rw q (removes g s a b (record { first = omega arith; second = l; two = λ z. omega arith; was = e ∙ gone-was (theirs a b) (base a b) (mine a b) q }) p)
+    pair-done false a b h l g s e p = elim (test (takes mine theirs base a b && not (theirs a b))) [
+      | inl q ↦ rw q
+          (k .removes g s a b (record { first = omega arith; second = l; two = λ z. omega arith; was = e ∙ chosen-was false a b q }) p)
       | inr q ↦ rw q (stays g s a b (omega arith) l (mine a b) e p)
     ]
 
     -- the pair decided from the state that the loops stand at
     same : (on : Bool) (a b : ℕ) → a < b → b < n → (g : Graph) (s : State) → g a b ≡ old on a b → P g s → stepped on theirs base a b s ≡ taking on a b s
     unfolding stepped thinned takes
-    same true a b h l g s e p = rw (shows g s p .links a b (omega arith) l ∙ e, come-same (theirs a b) (base a b) (mine a b))
-    same false a b h l g s e p = rw (shows g s p .links a b (omega arith) l ∙ e, is-gone (theirs a b))
+    same true a b h l g s e p = rw (k .shows g s p .links a b (omega arith) l ∙ e, addition-same (theirs a b) (base a b) (mine a b))
+    same false a b h l g s e p = rw (k .shows g s p .links a b (omega arith) l ∙ e, beq-false (theirs a b))
 
     module _ (m : Simple mine) (t : Simple theirs) (o : Simple base) where
       pub all-done : (on : Bool) (s : State) → P (old on) s → P (new on) (overPairs (taking on) n s)
-      all-done on = over-pairs (new on) (old on) (new-simple m t o on) (old-simple m t o on) n P agree (taking on) (does on)
+      all-done on = over-pairs (new on) (old on) (new-simple m t o on) (old-simple m t o on) n P (k .agree) (taking on) (pair-done on)
 
       pub all-same : (on : Bool) (s : State) → P (old on) s → overPairs (stepped on theirs base) n s ≡ overPairs (taking on) n s
-      all-same on = over-same (new on) (old on) (new-simple m t o on) (old-simple m t o on) n P agree (taking on) (does on) (stepped on theirs base) (same on)
+      all-same on =
+          over-same (new on) (old on) (new-simple m t o on) (old-simple m t o on) n P (k .agree) (taking on) (pair-done on) (stepped on theirs base) (same on)
 
       -- on the way, after the rows before b and the first a pairs of b
       pub some-done : (on : Bool) (a b : ℕ) (s : State) → a ≤ b → b < n → P (old on) s
           → P (halfway (new on) (old on) (pairCount b + a)) (overRow (taking on) b a (overPairs (taking on) b s))
-      some-done on = over-some (new on) (old on) (new-simple m t o on) (old-simple m t o on) n P agree (taking on) (does on)
-
-      pub some-stepped : (on : Bool) (a b : ℕ) (s : State) → a ≤ b → b < n → P (old on) s
-          → overRow (stepped on theirs base) b a (overPairs (stepped on theirs base) b s) ≡ overRow (taking on) b a (overPairs (taking on) b s)
-      some-stepped on =
-          some-same (new on) (old on) (new-simple m t o on) (old-simple m t o on) n P agree (taking on) (does on) (stepped on theirs base) (same on)
+      some-done on = over-some (new on) (old on) (new-simple m t o on) (old-simple m t o on) n P (k .agree) (taking on) (pair-done on)
 
       module _ (s : State) (p : P mine s) where
         merges : P (merged mine theirs base) (overPairs (adding mine theirs base) n (overPairs (removing mine theirs base) n s))
         merges = all-done true _ (all-done false s p)
 
-        steps-same : overPairs (stepped true theirs base) n (overPairs (stepped false theirs base) n s) ≡ overPairs (adding mine theirs base) n (overPairs (removing mine theirs base) n s)
+        steps-same : overPairs (stepped true theirs base) n (overPairs (stepped false theirs base) n s)
+            ≡ overPairs (adding mine theirs base) n (overPairs (removing mine theirs base) n s)
         steps-same = ap (overPairs (stepped true theirs base) n) (all-same false s p) ∙ all-same true _ (all-done false s p)
 
 module _ (s : State) (theirs base : List ℕ) where
@@ -234,19 +232,19 @@ module _ (s : State) (theirs base : List ℕ) where
   unfolding reconciled
   steps-reconcile {u = u} f d k e =
       e ∙ ap (λ n. overPairs (stepped true (edge theirs) (edge base)) n u) k ∙ ap (overPairs (stepped true (edge theirs) (edge base)) (size s)) d
-      ∙ steps-same (graph s) (edge theirs) (edge base) (size s) (Shows (size s)) (λ g g′ t. shows-agree) (λ g t h. h) (λ g t a b. added-shows a b) (λ g t a b. removed-shows a b)
+      ∙ steps-same (graph s) (edge theirs) (edge base) (size s) (Shows (size s)) (shows-kept (size s))
       (simple-edges (s .edges)) (simple-edges theirs) (simple-edges base) s (record { nodes = refl; fits = f; links = λ x y hx hy. refl })
 
   pub reconciled-shows : Shows (size s) (graph s) s → Shows (size s) result (reconciled s theirs base)
   unfolding reconciled
   reconciled-shows =
-      merges (graph s) (edge theirs) (edge base) (size s) (Shows (size s)) (λ g g′ t. shows-agree) (λ g t h. h) (λ g t a b. added-shows a b) (λ g t a b. removed-shows a b)
+      merges (graph s) (edge theirs) (edge base) (size s) (Shows (size s)) (shows-kept (size s))
       (simple-edges (s .edges)) (simple-edges theirs) (simple-edges base) s
 
   pub reconciled-sound : Sound (size s) (graph s) s → Sound (size s) result (reconciled s theirs base)
   unfolding reconciled
   reconciled-sound =
-      merges (graph s) (edge theirs) (edge base) (size s) (Sound (size s)) (λ g g′ t. sound-agree) (λ g t h. h .shows) (λ g t a b. added-sound a b) (λ g t a b. removed-sound a b)
+      merges (graph s) (edge theirs) (edge base) (size s) (Sound (size s)) (sound-kept (size s))
       (simple-edges (s .edges)) (simple-edges theirs) (simple-edges base) s
 
   -- AFTER AN ACCEPTED CALL each pair is as the editor who changed it left it, otherwise as in the common original.

@@ -17,7 +17,6 @@ use Rattle.ego.specs.Graph.{Graph, Simple}
 use Rattle.merge.specs.Reconcile.{overPairs, overRow}
 use Rattle.packed.proofs.PairLaws.{pair-comm, pair-inj, pair-less, pair-lt, pairs-suc}
 use Rattle.packed.specs.Pairs.{pairCount, pairIndex}
-use Rattle.state.specs.State.{State}
 
 -- the pairs numbered below i as in `new`, the others as in `old`
 unfoldable pub halfway : Graph → Graph → ℕ → Graph
@@ -67,50 +66,49 @@ module _ (new old : Graph) (fresh : Simple new) (past : Simple old) where
         | no l ↦ is-old new old (suc i) x y (omega arith) ∙ sym (is-old new old i x y (omega arith))
       ]
 
-  module _ (n : ℕ) (P : Graph → State → Type 0) (agree : (g g′ : Graph) (s : State) → Agree n g g′ → P g s → P g′ s) (change : ℕ → ℕ → State → State)
-      (does : (a b : ℕ) → a < b → b < n → (g : Graph) (s : State) → g a b ≡ old a b → P g s → P (withPair g a b (new a b)) (change a b s)) where
-    row : (a b : ℕ) (s : State) → a ≤ b → b < n → P (halfway new old (pairCount b)) s → P (halfway new old (pairCount b + a)) (overRow change b a s)
+  module _ {A : Type 0} (n : ℕ) (P : Graph → A → Type 0) (agree : (g g′ : Graph) (s : A) → Agree n g g′ → P g s → P g′ s) (change : ℕ → ℕ → A → A)
+      (pair-done : (a b : ℕ) → a < b → b < n → (g : Graph) (s : A) → g a b ≡ old a b → P g s → P (withPair g a b (new a b)) (change a b s)) where
+    row : (a b : ℕ) (s : A) → a ≤ b → b < n → P (halfway new old (pairCount b)) s → P (halfway new old (pairCount b + a)) (overRow change b a s)
     unfolding overRow
     row zero b s h l p = rw add-zero p
     row (suc a) b s h l p =
         let i : ℕ = pairCount b + a in
         let e = pair-less a b h in
         agree _ _ _ (λ x y hx hy. sym (halfway-more a b i x y h e) ∙ ap (λ j. halfway new old j x y) (omega arith))
-        (does a b h l (halfway new old i) _ (is-old new old i a b (omega arith)) (row a b s (omega arith) l p))
+        (pair-done a b h l (halfway new old i) _ (is-old new old i a b (omega arith)) (row a b s (omega arith) l p))
 
-    rows : (b : ℕ) (s : State) → b ≤ n → P old s → P (halfway new old (pairCount b)) (overPairs change b s)
+    rows : (b : ℕ) (s : A) → b ≤ n → P old s → P (halfway new old (pairCount b)) (overPairs change b s)
     unfolding overPairs pairCount
     rows zero s h p = agree _ _ _ (λ x y hx hy. sym (is-old new old 0 x y zero-le)) p
     rows (suc b) s h p = rw (pairs-suc b) (row b b (overPairs change b s) (le-refl b) h (rows b s (omega arith) p))
 
-    pub over-pairs : (s : State) → P old s → P new (overPairs change n s)
+    pub over-pairs : (s : A) → P old s → P new (overPairs change n s)
     over-pairs s p = agree _ _ _ (λ x y hx hy. elim (ℕ-discrete x y) [
       | yes e ↦ no-loop (pairCount n) x y e ∙ sym (rw e (fresh .loopless y))
       | no d ↦ is-new new old (pairCount n) x y (pair-lt x y n d hx hy)
     ]) (rows n s (le-refl n) p)
 
     -- ON THE WAY, after the rows before b and the first a pairs of b
-    pub over-some : (a b : ℕ) (s : State) → a ≤ b → b < n → P old s → P (halfway new old (pairCount b + a)) (overRow change b a (overPairs change b s))
+    pub over-some : (a b : ℕ) (s : A) → a ≤ b → b < n → P old s → P (halfway new old (pairCount b + a)) (overRow change b a (overPairs change b s))
     over-some a b s h l p = row a b (overPairs change b s) h l (rows b s (omega arith) p)
 
     -- another change that does the same wherever the pair still is as in `old`
-    module _ (other : ℕ → ℕ → State → State)
-        (same : (a b : ℕ) → a < b → b < n → (g : Graph) (s : State) → g a b ≡ old a b → P g s → other a b s ≡ change a b s) where
-      row-same : (a b : ℕ) (s : State) → a ≤ b → b < n → P (halfway new old (pairCount b)) s → overRow other b a s ≡ overRow change b a s
+    module _ (other : ℕ → ℕ → A → A)
+        (same : (a b : ℕ) → a < b → b < n → (g : Graph) (s : A) → g a b ≡ old a b → P g s → other a b s ≡ change a b s) where
+      row-same : (a b : ℕ) (s : A) → a ≤ b → b < n → P (halfway new old (pairCount b)) s → overRow other b a s ≡ overRow change b a s
       unfolding overRow
       row-same zero b s h l p = refl
       row-same (suc a) b s h l p =
           let i : ℕ = pairCount b + a in
           let e = pair-less a b h in
-          ap (other a b) (row-same a b s (omega arith) l p) ∙ same a b h l (halfway new old i) _ (is-old new old i a b (omega arith)) (row a b s (omega arith) l p)
+          ap (other a b) (row-same a b s (omega arith) l p)
+          ∙ same a b h l (halfway new old i) _ (is-old new old i a b (omega arith)) (row a b s (omega arith) l p)
 
-      rows-same : (b : ℕ) (s : State) → b ≤ n → P old s → overPairs other b s ≡ overPairs change b s
+      rows-same : (b : ℕ) (s : A) → b ≤ n → P old s → overPairs other b s ≡ overPairs change b s
       unfolding overPairs
       rows-same zero s h p = refl
-      rows-same (suc b) s h p = ap (overRow other b b) (rows-same b s (omega arith) p) ∙ row-same b b (overPairs change b s) (le-refl b) h (rows b s (omega arith) p)
+      rows-same (suc b) s h p =
+          ap (overRow other b b) (rows-same b s (omega arith) p) ∙ row-same b b (overPairs change b s) (le-refl b) h (rows b s (omega arith) p)
 
-      pub over-same : (s : State) → P old s → overPairs other n s ≡ overPairs change n s
+      pub over-same : (s : A) → P old s → overPairs other n s ≡ overPairs change n s
       over-same s p = rows-same n s (le-refl n) p
-
-      pub some-same : (a b : ℕ) (s : State) → a ≤ b → b < n → P old s → overRow other b a (overPairs other b s) ≡ overRow change b a (overPairs change b s)
-      some-same a b s h l p = ap (overRow other b a) (rows-same b s (omega arith) p) ∙ row-same a b (overPairs change b s) h l (rows b s (omega arith) p)

@@ -1,25 +1,36 @@
--- One pair of a reconcile and one turn of its loops, in the shape of the loops' needs. Assumes nothing.
-use mathlib.Core.Bool.{_&&_, Bool, Bool·beq, cond, false, not, true}
-use mathlib.Core.List.{List, _∷_}
-use mathlib.Core.Path.{ap, refl, _∙_, _≡_}
+-- One pair of a reconcile: what is decided of it, what its step requires, and what the step keeps. Assumes nothing.
+use mathlib.Core.Bool.{_&&_, Bool, Bool·beq, cond, false, not, or-true, true, true≢false}
+use mathlib.Core.List.{List}
+use mathlib.Core.Logic.{inl, inr, _≢_}
+use mathlib.Core.Path.{ap, refl, sym, _∙_, _≡_}
 use Prim.Native.Nat.{_+_, _<_, max, ℕ, _≤_}
-use native.Mathlib.Decide.{ℕ-discrete}
-use native.Mathlib.Nat.{le-antisymm}
-use native.Mathlib.Numerals.{add-one}
+use native.Mathlib.Nat.{le-trans}
 use native.Mathlib.Omega.{arith}
 use borrow.Author.Tests.{not-false}
 use lib.ListN.{length}
-use Rattle.ego.specs.Graph.{Graph}
-use Rattle.merge.specs.Reconcile.{overPairs, overRow, takes}
-use Rattle.merge.specs.Steps.{Aligned, stepped}
+use Rattle.arith.proofs.Tests.{and-true, test}
+use Rattle.ego.proofs.FoundLaws.{simple-edges}
+use Rattle.ego.proofs.WithPair.{apart, back, forth, pair-back, pair-elsewhere, pair-forth, which}
+use Rattle.ego.proofs.Within.{Within, within-degree}
+use Rattle.ego.specs.Change.{withPair}
+use Rattle.ego.specs.Graph.{degree, Graph, Simple}
+use Rattle.ego.specs.Limits.{limit}
+use Rattle.packed.proofs.EdgeLaws.{length-with-edge}
 use Rattle.packed.proofs.PairLaws.{room-within}
 use Rattle.packed.specs.Bits.{differ}
-use Rattle.packed.specs.Pairs.{Room}
-use Rattle.state.proofs.RefusalLaws.{Fitted, passed-length, refused-length}
-use Rattle.edits.specs.Edit.{added, removed}
-use Rattle.state.specs.Refusal.{bufferLength, Condition, refusal}
-use Rattle.state.specs.Sizes.{edgeBytes}
-use Rattle.state.specs.State.{graph, State}
+use Rattle.packed.specs.Edges.{edge, withEdge}
+use Rattle.packed.specs.inside.Room.{Room}
+use Rattle.packed.specs.inside.Degrees.{degreesOf}
+use Rattle.edits.proofs.EditLaws.{edit-pair, edited-marks, edited-size}
+use Rattle.edits.specs.Edit.{added, edited, removed}
+use Rattle.edits.specs.inside.Change.{changed, Steppable}
+use Rattle.state.specs.Refusal.{ends, touched}
+use Rattle.state.specs.State.{graph, size, State}
+use Rattle.merge.specs.Reconcile.{takes}
+use Rattle.merge.specs.inside.Steps.{allStepped, cap, Ready, stepped}
+use Rattle.merge.specs.inside.Walk.{NextPair, Place}
+use Rattle.merge.specs.declared.changed.Pair.{Pair}
+use Rattle.merge.proofs.WalkLaws.{overTo, place-first, place-next, walk-end, walk-next, walk-start, walk-step}
 
 -- ---- one pair: theirs, the original, mine
 
@@ -27,6 +38,20 @@ module _ (mine theirs base : Graph) (a b : ℕ) where
   pub takes-is : {t o : Bool} → theirs a b ≡ t → base a b ≡ o → takes mine theirs base a b ≡ (differ t o && differ t (mine a b))
   unfolding takes
   takes-is e f = rw (e, f)
+
+  pub unchanged-stays : differ (theirs a b) (base a b) ≡ false → takes mine theirs base a b ≡ false
+  unfolding takes
+  unchanged-stays e = rw e
+
+  -- a pair that takes theirs is one that theirs has changed, and in mine it is not as in theirs
+  pub taken-was : takes mine theirs base a b ≡ true → (differ (theirs a b) (base a b) ≡ true) × (mine a b ≡ not (theirs a b))
+  unfolding takes
+  taken-was e = let r = and-true _ _ e in (r .0, other (theirs a b) (mine a b) (r .1))
+    where
+      other : (x y : Bool) → differ x y ≡ true → y ≡ not x
+      other true true e = absurd (true≢false (sym e))
+      other true false e = refl
+      other false y e = e
 
 -- what is decided of the pair a, b at the state s
 module _ (on : Bool) (theirs base : Graph) (a b : ℕ) (s : State) where
@@ -36,77 +61,140 @@ module _ (on : Bool) (theirs base : Graph) (a b : ℕ) (s : State) where
 
   -- where it takes theirs: by whether theirs has it
   module _ {took there : Bool} (e : took ≡ takes (graph s) theirs base a b) (f : not took ≡ false) (h : there ≡ theirs a b) where
-    pub unlike : Bool·beq there on ≡ false → s ≡ stepped on theirs base a b s
+    pub step-stays : Bool·beq there on ≡ false → s ≡ stepped on theirs base a b s
     unfolding stepped
-    unlike k = rw (← e, not-false took f, ← h, k)
+    step-stays k = rw (← e, not-false took f, ← h, k)
 
-    pub alike : {t : State} → Bool·beq there on ≡ true → t ≡ cond on (added s a b) (removed s a b) → t ≡ stepped on theirs base a b s
+    pub step-changes : {t : State} → Bool·beq there on ≡ true → t ≡ changed s a b on → t ≡ stepped on theirs base a b s
     unfolding stepped
-    alike k q = rw (← e, not-false took f, ← h, k) q
+    step-changes k q = rw (← e, not-false took f, ← h, k) q
 
--- ---- one turn
+pub beq-same : (x y : Bool) → Bool·beq x y ≡ true → x ≡ y
+beq-same true true e = refl
+beq-same true false e = sym e
+beq-same false true e = e
+beq-same false false e = refl
 
-module _ (change : ℕ → ℕ → State → State) (s : State) where
-  pub row-none : (b : ℕ) → s ≡ overRow change b 0 s
-  unfolding overRow
-  row-none b = refl
+-- ---- the edges that a graph may have on the way
 
-  pub row-step : (b a : ℕ) {t u : State} → t ≡ overRow change b a s → u ≡ change a b t → u ≡ overRow change b (a + 1) s
-  unfolding overRow
-  row-step b a e f = rw add-one (f ∙ ap (change a b) e)
+pub cap-within : (n : ℕ) (on : Bool) (theirs base g : Graph) → Within n g (cap on theirs base g)
+unfolding cap
+cap-within n on theirs base g x y hx hy e = rw e refl
 
-  pub row-done : (b a : ℕ) {t : State} → t ≡ overRow change b a s → a ≤ b → b ≤ a → t ≡ overRow change b b s
-  row-done b a e h l = e ∙ ap (λ m. overRow change b m s) (le-antisymm h l)
-
-  pub pairs-none : s ≡ overPairs change 0 s
-  unfolding overPairs
-  pairs-none = refl
-
-  pub pairs-step : (b : ℕ) {t u : State} → t ≡ overPairs change b s → u ≡ overRow change b b t → u ≡ overPairs change (b + 1) s
-  unfolding overPairs
-  pairs-step b e f = rw add-one (f ∙ ap (overRow change b b) e)
-
-  pub pairs-done : (n b : ℕ) {t : State} → t ≡ overPairs change b s → b ≤ n → n ≤ b → t ≡ overPairs change n s
-  pairs-done n b e h l = e ∙ ap (λ m. overPairs change m s) (le-antisymm h l)
-
--- ---- the lengths
-
-module _ {n edges marks theirs base : ℕ} (h : Aligned n edges marks theirs base) where
-  pub aligned-kept : {m edges′ marks′ : ℕ} → edges′ ≡ edges → m ≡ n → marks′ ≡ marks → Aligned m edges′ marks′ theirs base
-  aligned-kept e f g = rw (e, f, g) h
-
-  pub aligned-room : (es : List ℕ) → length es ≡ edges → Room n es
-  aligned-room es e = record { few = h .few; bits = omega (arith, h .edgesFit) }
-
-  pub aligned-theirs : (es : List ℕ) → length es ≡ theirs → Room n es
-  aligned-theirs es e = record { few = h .few; bits = omega (arith, h .theirsFit) }
-
-  pub aligned-base : (es : List ℕ) → length es ≡ base → Room n es
-  aligned-base es e = record { few = h .few; bits = omega (arith, h .baseFit) }
-
--- the three buffers at a pair
-module _ {n a b marks : ℕ} (ha : a < n) (hb : b < n) {edges theirs base : List ℕ} (h : Aligned n (length edges) marks (length theirs) (length base)) where
-  pub pair-rooms : Room (max a b + 1) edges × Room (max a b + 1) theirs × Room (max a b + 1) base
-  pair-rooms = (
-    room-within a b n edges ha hb (aligned-room h edges refl),
-    room-within a b n theirs ha hb (aligned-theirs h theirs refl),
-    room-within a b n base ha hb (aligned-base h base refl),
-  )
-
--- ---- the lengths of a reconcile that is accepted
-
-buffers-fit : (n theirs base : ℕ) (cs : List Condition) {r : ℕ} → r ≡ refusal (bufferLength (edgeBytes n) theirs ∷ bufferLength (edgeBytes n) base ∷ cs) → r ≡ 0
-    → (theirs ≡ edgeBytes n) × (base ≡ edgeBytes n)
-buffers-fit n theirs base cs e z = elim (ℕ-discrete theirs (edgeBytes n)) [
-  | no d ↦ absurd (omega (arith, refused-length (bufferLength (edgeBytes n) base ∷ cs) (edgeBytes n) theirs d))
-  | yes h ↦ elim (ℕ-discrete base (edgeBytes n)) [
-    | no d ↦ absurd (omega (arith, passed-length (bufferLength (edgeBytes n) base ∷ cs) (edgeBytes n) theirs h, refused-length cs (edgeBytes n) base d))
-    | yes k ↦ (h, k)
-  ]
+-- a pair that is put in is one of them already, and one that is taken out takes nothing in
+cap-step : (n : ℕ) (on : Bool) (theirs base g : Graph) (a b : ℕ) → Simple theirs → Simple base → differ (theirs a b) (base a b) ≡ true → theirs a b ≡ on
+    → Within n (cap on theirs base (withPair g a b on)) (cap on theirs base g)
+unfolding cap
+cap-step n true theirs base g a b t o d e x y hx hy q = elim (which a b x y) [
+  | forth p r ↦ rw (p, r, d, e) (or-true (g a b))
+  | back p r ↦ rw (p, r, t .symmetric b a, o .symmetric b a, d, e) (or-true (g b a))
+  | apart p r ↦ rw (pair-elsewhere g a b true x y p r) at q
+]
+cap-step n false theirs base g a b t o d e x y hx hy q = elim (which a b x y) [
+  | forth p r ↦ absurd (true≢false (sym (rw (pair-forth g a b false x y p r) at q)))
+  | back p r ↦ absurd (true≢false (sym (rw (pair-back g a b false x y p r) at q)))
+  | apart p r ↦ rw (pair-elsewhere g a b false x y p r) at q
 ]
 
-pub accepted-aligned : {n edges marks theirs base : ℕ} (cs : List Condition) {r : ℕ} → Fitted n edges marks
-    → r ≡ refusal (bufferLength (edgeBytes n) theirs ∷ bufferLength (edgeBytes n) base ∷ cs) → r ≡ 0 → Aligned n edges marks theirs base
-accepted-aligned {n} {theirs = theirs} {base = base} cs f e z =
-    let fit = buffers-fit n theirs base cs e z in
-    record { few = f .sizes .few; edgesFit = f .sizes .edgesFit; marksFit = f .marksFit; theirsFit = fit .0; baseFit = fit .1 }
+-- ---- a step of the walk
+
+module _ {on : Bool} {theirs base : List ℕ} {s : State} {degrees : List ℕ} (r : Ready on theirs base s degrees) (a b : ℕ) (h : a < b) (l : b < size s) where
+  pub ready-rooms : Room (max a b + 1) (s .edges) × Room (max a b + 1) theirs × Room (max a b + 1) base
+  ready-rooms =
+      let k : a < size s = omega arith in
+      (room-within a b (size s) (s .edges) k l (r .room), room-within a b (size s) theirs k l (r .theirsRoom), room-within a b (size s) base k l (r .baseRoom))
+
+  module _ (took : takes (graph s) (edge theirs) (edge base) a b ≡ true) (there : edge theirs a b ≡ on) where
+    after-cap : Within (size s) (cap on (edge theirs) (edge base) (edge (withEdge (s .edges) a b on))) (cap on (edge theirs) (edge base) (graph s))
+    unfolding cap
+    after-cap x y hx hy q =
+        cap-step (size s) on (edge theirs) (edge base) (graph s) a b (simple-edges theirs) (simple-edges base)
+        (taken-was (graph s) (edge theirs) (edge base) a b took .0) there x y hx hy
+        (rw (edit-pair (s .edges) (size s) a b (r .room) (omega arith) l (λ e. omega arith) on x y) at q)
+
+    few-after : (p : ℕ) → p < size s → degree (cap on (edge theirs) (edge base) (edge (withEdge (s .edges) a b on))) (size s) p ≤ limit
+    few-after p k = le-trans (within-degree after-cap p k) (r .capped p k)
+
+    pub ready-step : Steppable s a b on
+    ready-step = record {
+      pair = record {
+        firstBelow = omega arith;
+        secondBelow = l;
+        apart = λ e. omega arith;
+        was = taken-was (graph s) (edge theirs) (edge base) a b took .1 ∙ ap not there;
+        room = r .room;
+        marked = r .marked;
+      };
+      fewBefore = λ p k. le-trans (within-degree (cap-within (size s) on (edge theirs) (edge base) (graph s)) p k) (r .capped p k);
+      fewAfter = λ p k. le-trans (within-degree (cap-within (size s) on (edge theirs) (edge base) (edge (withEdge (s .edges) a b on))) p k) (few-after p k);
+    }
+
+    edited-ready : (which : ℕ → Bool) {next : List ℕ} → next ≡ degreesOf (withEdge (s .edges) a b on) (size s)
+        → Ready on theirs base (edited s a b on which) next
+    unfolding edited
+    edited-ready which e =
+        let n = edited-size s a b on which in record {
+          room = rw n (record { few = r .room .few; bits = omega (arith, r .room .bits, length-with-edge (s .edges) a b on) });
+          marked = rw n (omega (arith, r .marked, edited-marks s a b on which));
+          theirsRoom = rw n (r .theirsRoom);
+          baseRoom = rw n (r .baseRoom);
+          counted = rw n e;
+          capped = λ p k. rw n (few-after p (omega arith));
+        }
+
+changed-is : (s : State) (a b : ℕ) (on : Bool) → changed s a b on ≡ edited s a b on (cond on (ends a b) (touched (graph s) a b))
+unfolding added removed
+changed-is s a b true = refl
+changed-is s a b false = refl
+
+-- the step keeps what the loops need
+pub ready-kept : (on : Bool) (theirs base : List ℕ) {s t : State} {degrees next : List ℕ} (a b : ℕ) → Ready on theirs base s degrees → a < b → b < size s
+    → t ≡ stepped on (edge theirs) (edge base) a b s → next ≡ degreesOf (t .edges) (size s) → Ready on theirs base t next
+unfolding stepped edited
+ready-kept on theirs base {s} {t} {next = next} a b r h l e f = elim (test (takes (graph s) (edge theirs) (edge base) a b && Bool·beq (edge theirs a b) on)) [
+  | inl q ↦ let p = and-true _ _ q in
+      let k = (rw q at e) ∙ changed-is s a b on in
+      rw k (edited-ready r a b h l (p .0) (beq-same _ _ (p .1)) _ (f ∙ ap (λ u. degreesOf (u .edges) (size s)) k))
+  | inr q ↦ let k : t ≡ s = rw q at e in rw (k, f, k, ← r .counted) r
+]
+
+-- ---- the walk, which started at s and stands at t, before the pair a, b
+
+pub record StepsTaken (on : Bool) (theirs base : List ℕ) (s t : State) (degrees : List ℕ) (a b : ℕ) : Type 0 where
+  pub place : Place (size s) a b
+  pub edgesKept : length (t .edges) ≡ length (s .edges)
+  pub nodesKept : size t ≡ size s
+  pub marksKept : length (t .marks) ≡ length (s .marks)
+  pub ready : Ready on theirs base t degrees
+  pub stands : t ≡ overTo (stepped on (edge theirs) (edge base)) a b s
+
+module _ (on : Bool) (theirs base : List ℕ) (s : State) where
+  idle : (a b : ℕ) → differ (edge theirs a b) (edge base a b) ≡ false → (t : State) → stepped on (edge theirs) (edge base) a b t ≡ t
+  idle a b e t = sym (untaken on (edge theirs) (edge base) a b t (unchanged-stays (graph t) (edge theirs) (edge base) a b e))
+
+  pub taken-first : {degrees : List ℕ} → Ready on theirs base s degrees → StepsTaken on theirs base s s degrees 0 0
+  taken-first h = record {
+    place = place-first (size s);
+    edgesKept = refl;
+    nodesKept = refl;
+    marksKept = refl;
+    ready = h;
+    stands = walk-start (stepped on (edge theirs) (edge base)) theirs base idle s;
+  }
+
+  module _ {t : State} {degrees : List ℕ} {a b : ℕ} {r : Pair} (w : StepsTaken on theirs base s t degrees a b) (f : NextPair theirs base (size s) a b r) where
+    pub taken-all : r .b ≡ size s → t ≡ allStepped on theirs base s
+    taken-all q = walk-end (stepped on (edge theirs) (edge base)) theirs base idle s (w .place) f q (w .stands)
+
+    pub taken-next : {u : State} {next : List ℕ} → r .b ≢ size s
+        → length (u .edges) ≡ length (t .edges) → size u ≡ size t → length (u .marks) ≡ length (t .marks)
+        → u ≡ stepped on (edge theirs) (edge base) (r .a) (r .b) t → next ≡ degreesOf (u .edges) (size t) → StepsTaken on theirs base s u next (r .a + 1) (r .b)
+    taken-next q x y z e d = record {
+      place = place-next f q;
+      edgesKept = x ∙ w .edgesKept;
+      nodesKept = y ∙ w .nodesKept;
+      marksKept = z ∙ w .marksKept;
+      ready = ready-kept on theirs base (r .a) (r .b) (w .ready) (f .found q .0) (omega (arith, w .nodesKept, f .found q .1)) e d;
+      stands = walk-step (stepped on (edge theirs) (edge base)) theirs base idle s (r .a) (r .b)
+          (walk-next (stepped on (edge theirs) (edge base)) theirs base idle s (w .place) f (w .stands)) e;
+    }

@@ -1,4 +1,4 @@
 -- The call that reconciles mine with theirs.
 pub mod Reconcile
 pub mod Single
-pub mod Steps
+pub mod inside

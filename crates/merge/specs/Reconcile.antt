@@ -20,11 +20,11 @@ unfoldable pub merged : Graph → Graph → Graph → Graph
 merged mine theirs base a b = cond (takes mine theirs base a b) (theirs a b) (mine a b)
 
 -- A change for each pair a < b < n, in bit order: by b, then by a.
-unfoldable pub overRow : (ℕ → ℕ → State → State) → ℕ → ℕ → State → State
+unfoldable pub overRow : {A : Type 0} → (ℕ → ℕ → A → A) → ℕ → ℕ → A → A
 overRow change b zero s = s
 overRow change b (suc a) s = change a b (overRow change b a s)
 
-unfoldable pub overPairs : (ℕ → ℕ → State → State) → ℕ → State → State
+unfoldable pub overPairs : {A : Type 0} → (ℕ → ℕ → A → A) → ℕ → A → A
 overPairs change zero s = s
 overPairs change (suc b) s = overRow change b b (overPairs change b s)
 

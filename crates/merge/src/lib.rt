@@ -1,4 +1,5 @@
 // Reconcile two editors' graphs.
+pub mod changed;
 pub mod merged;
 pub mod reconcile;
 pub mod taken;

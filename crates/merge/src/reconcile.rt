@@ -1,23 +1,33 @@
 // The call that brings another editor's changes into the state.
-use crate::merged::any_over_after;
+use crate::merged::corrected;
 use crate::taken::take_all;
-use state::crowded::any_over;
+use packed::degrees::degrees_of;
+use packed::edges::MAX_NODES;
+use state::crowded::any_among;
 use state::refusal::CROWDED_AFTER;
 use state::refusal::CROWDED_BEFORE;
 use state::refusal::LENGTH;
 use state::sizes::edge_bytes;
 use state::sizes::state_refusal;
 ghost use mathlib.Core.Path.{_≡_};
-ghost use Rattle.packed.specs.Pairs.{Room};
-ghost use Rattle.packed.specs.Edges.{edge};
+ghost use Rattle.packed.specs.inside.Room.{Room};
+ghost use Rattle.packed.specs.inside.Degrees.{degreesOf};
 ghost use Rattle.state.specs.Refusal.{refusal};
-ghost use Rattle.state.specs.Outcome.{left, state};
-ghost use Rattle.merge.specs.Reconcile.{merged, reconcileConditions, reconcileCall};
+ghost use Rattle.state.specs.Outcome.{left};
+ghost use Rattle.state.specs.Lent.{atEntry, atExit};
+ghost use Rattle.merge.specs.Reconcile.{reconcileCall};
+ghost use Rattle.merge.specs.inside.Steps.{mergeConditions};
 
-// The refusals of a reconcile after those of the state's lengths.
-fn reconcile_refusal(edges: &[u8], theirs: &[u8], base: &[u8], n: usize) -> u64
-    requires { ⌜ Room n (now edges) ⌝ }
-    ensures { λ r. ⌜ r ≡ refusal (reconcileConditions n (edge (now (edges .entry))) (merged (edge (now (edges .entry))) (edge (now (theirs .entry))) (edge (now (base .entry)))) (now (theirs .entry)) (now (base .entry))) ⌝ }
+// The refusals of a reconcile after those of the state's lengths, from the degrees before it.
+fn reconcile_refusal(
+    edges: &[u8],
+    theirs: &[u8],
+    base: &[u8],
+    n: usize,
+    degrees: [u16; MAX_NODES],
+) -> u64
+    requires { ⌜ Room n (now edges) × (degrees ≡ degreesOf (now edges) n) ⌝ }
+    ensures { λ r. ⌜ r ≡ refusal (mergeConditions n (now (edges .entry)) (now (theirs .entry)) (now (base .entry))) ⌝ }
 {
     let bytes = edge_bytes(n);
     if theirs.len() != bytes {
@@ -26,10 +36,11 @@ fn reconcile_refusal(edges: &[u8], theirs: &[u8], base: &[u8], n: usize) -> u64
     if base.len() != bytes {
         return LENGTH;
     }
-    if any_over(edges, n) {
+    if any_among(&degrees[..], n) {
         return CROWDED_BEFORE;
     }
-    if any_over_after(edges, theirs, base, n) {
+    let after = corrected(edges, theirs, base, n, degrees);
+    if any_among(&after[..], n) {
         return CROWDED_AFTER;
     }
     0
@@ -43,18 +54,19 @@ pub fn reconcile(
     theirs: &[u8],
     base: &[u8],
 ) -> u64
-    ensures { λ r. ⌜ left r (now (edges .exit)) (now (figures .exit)) (now (marks .exit)) ≡ reconcileCall (state (now (edges .entry)) (now (figures .entry)) (now (marks .entry))) (now (theirs .entry)) (now (base .entry)) ⌝ }
+    ensures { λ r. ⌜ left r (atExit edges figures marks) ≡ reconcileCall (atEntry edges figures marks) (now (theirs .entry)) (now (base .entry)) ⌝ }
 {
     let n = figures.len();
     let lengths = state_refusal(n, edges.len(), marks.len());
     if lengths != 0 {
         return lengths;
     }
-    let refusal = reconcile_refusal(edges, theirs, base, n);
+    let mut degrees = degrees_of(edges, n);
+    let refusal = reconcile_refusal(edges, theirs, base, n, degrees);
     if refusal != 0 {
         return refusal;
     }
-    take_all(edges, figures, marks, theirs, base, false);
-    take_all(edges, figures, marks, theirs, base, true);
+    take_all(edges, figures, marks, theirs, base, &mut degrees[..], false);
+    take_all(edges, figures, marks, theirs, base, &mut degrees[..], true);
     0
 }

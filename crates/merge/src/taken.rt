@@ -1,16 +1,15 @@
 // The pairs that take theirs, in bit order: the additions where `on`, the removals elsewhere.
-use crate::merged::next_changed;
-use crate::merged::row_same;
+use crate::changed::next_pair;
 use crate::merged::takes;
-use edits::edit::apply;
+use edits::edit::step;
 use packed::edges::has;
 ghost use mathlib.Core.Path.{_≡_};
 ghost use Prim.Native.Nat.{_<_};
 ghost use lib.ListN.{length};
 ghost use Rattle.packed.specs.Edges.{edge};
-ghost use Rattle.state.specs.Outcome.{state};
-ghost use Rattle.merge.specs.Reconcile.{overRow, overPairs};
-ghost use Rattle.merge.specs.Steps.{stepped, Aligned};
+ghost use Rattle.packed.specs.inside.Degrees.{degreesOf};
+ghost use Rattle.merge.specs.inside.Steps.{Ready, stepped, allStepped};
+ghost use Rattle.state.specs.Lent.{atEntry, atExit, lent};
 
 // Sets the pair a, b to `on` where it takes theirs and theirs has it so.
 fn take(
@@ -19,41 +18,20 @@ fn take(
     marks: &mut [u8],
     theirs: &[u8],
     base: &[u8],
+    degrees: &mut [u16],
     a: usize,
     b: usize,
     on: bool,
 )
-    requires { ⌜ (a < length (now figures)) × (b < length (now figures)) × Aligned (length (now figures)) (length (now edges)) (length (now marks)) (length (now theirs)) (length (now base)) ⌝ }
-    ensures { λ _. ⌜ state (now (edges .exit)) (now (figures .exit)) (now (marks .exit)) ≡ stepped on (edge (now (theirs .entry))) (edge (now (base .entry))) a b (state (now (edges .entry)) (now (figures .entry)) (now (marks .entry))) ⌝ }
+    requires { ⌜ (a < b) × (b < length (now figures)) × Ready on (now theirs) (now base) (lent edges figures marks) (now degrees) ⌝ }
+    ensures { λ _. ⌜ atExit edges figures marks ≡ stepped on (edge (now (theirs .entry))) (edge (now (base .entry))) a b (atEntry edges figures marks) ⌝ }
+    ensures { λ _. ⌜ now (degrees .exit) ≡ degreesOf (now (edges .exit)) (length (now (figures .entry))) ⌝ }
 {
     if !takes(edges, theirs, base, a, b) {
         return;
     }
     if has(theirs, a, b) == on {
-        apply(edges, figures, marks, a, b, on);
-    }
-}
-
-// The same at the pairs of b with the nodes below it.
-fn take_row(
-    edges: &mut [u8],
-    figures: &mut [u64],
-    marks: &mut [u8],
-    theirs: &[u8],
-    base: &[u8],
-    b: usize,
-    on: bool,
-)
-    requires { ⌜ (b < length (now figures)) × Aligned (length (now figures)) (length (now edges)) (length (now marks)) (length (now theirs)) (length (now base)) ⌝ }
-    ensures { λ _. ⌜ state (now (edges .exit)) (now (figures .exit)) (now (marks .exit)) ≡ overRow (stepped on (edge (now (theirs .entry))) (edge (now (base .entry)))) b b (state (now (edges .entry)) (now (figures .entry)) (now (marks .entry))) ⌝ }
-{
-    if row_same(theirs, base, b) {
-        return;
-    }
-    let mut a = next_changed(theirs, base, 0, b);
-    while a < b {
-        take(edges, figures, marks, theirs, base, a, b, on);
-        a = next_changed(theirs, base, a + 1, b);
+        step(edges, figures, marks, degrees, a, b, on);
     }
 }
 
@@ -64,13 +42,24 @@ pub(crate) fn take_all(
     marks: &mut [u8],
     theirs: &[u8],
     base: &[u8],
+    degrees: &mut [u16],
     on: bool,
 )
-    requires { ⌜ Aligned (length (now figures)) (length (now edges)) (length (now marks)) (length (now theirs)) (length (now base)) ⌝ }
-    ensures { λ _. ⌜ state (now (edges .exit)) (now (figures .exit)) (now (marks .exit)) ≡ overPairs (stepped on (edge (now (theirs .entry))) (edge (now (base .entry)))) (length (now (figures .entry))) (state (now (edges .entry)) (now (figures .entry)) (now (marks .entry))) ⌝ }
+    requires { ⌜ Ready on (now theirs) (now base) (lent edges figures marks) (now degrees) ⌝ }
+    ensures { λ _. ⌜ atExit edges figures marks ≡ allStepped on (now (theirs .entry)) (now (base .entry)) (atEntry edges figures marks) ⌝ }
+    ensures { λ _. ⌜ now (degrees .exit) ≡ degreesOf (now (edges .exit)) (length (now (figures .entry))) ⌝ }
 {
     let n = figures.len();
-    for b in 0..n {
-        take_row(edges, figures, marks, theirs, base, b, on);
+    let mut a: usize = 0;
+    let mut b: usize = 0;
+    loop {
+        let next = next_pair(theirs, base, n, a, b);
+        a = next.a;
+        b = next.b;
+        if b == n {
+            return;
+        }
+        take(edges, figures, marks, theirs, base, degrees, a, b, on);
+        a += 1;
     }
 }

@@ -11,7 +11,8 @@ use borrow.Author.Tests.{eq-eqb, ne-eqb}
 use lib.ListN.{length}
 use Rattle.packed.proofs.BitLaws.{bit-with-other, bit-with-same, length-with-bit, same-bits}
 use Rattle.packed.proofs.PairLaws.{pair-comm, pair-inj, pair-lt, pair-onto}
-use Rattle.packed.specs.Bits.{bitAt, Bytes, withBit}
+use Rattle.packed.specs.Bits.{bitAt, withBit}
+use Rattle.packed.specs.inside.Bytes.{Bytes}
 use Rattle.packed.specs.Edges.{edge, withEdge}
 use Rattle.packed.specs.Pairs.{pairCount, pairIndex}
 

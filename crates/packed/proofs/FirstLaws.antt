@@ -12,15 +12,15 @@ use lib.Bits.{and-mask, bitAnd, bitXor, xor-shr, xor-step}
 use lib.Bits as Lib
 use lib.Count.{leading-le, leading-of-zero, leading-top, leadingZeros}
 use lib.Dec.{eqb}
-use lib.Pow.{high, ones-lt, ones-split, pow-mono, pow-pos}
+use lib.Pow.{high, low, ones-lt, ones-split, pow-mono, pow-pos}
 use Rattle.arith.proofs.Least.{leastFrom-hit, leastFrom-miss}
 use Rattle.arith.proofs.Tests.{test}
 use Rattle.arith.proofs.Words.{bit-mod}
 use Rattle.arith.specs.Digits.{bitOf, digit}
 use Rattle.arith.specs.Lists.{leastFrom}
-use Rattle.packed.proofs.RunLaws.{run-bit}
-use Rattle.packed.specs.Bits.{bitAt, differ, FirstFrom}
-use Rattle.packed.specs.Runs.{runOf}
+use Rattle.packed.proofs.RunLaws.{run-bit, run-cat, run-lt, shifted-one}
+use Rattle.packed.specs.Bits.{bitAt, differ, runOf, wordOf}
+use Rattle.packed.specs.inside.Search.{FirstFrom}
 
 -- ---- `FirstFrom` fixes one number
 
@@ -33,7 +33,8 @@ module _ (passes : ℕ → Bool) where
       | no l ↦ omega (arith, f .start, leastFrom-hit passes from m t)
     ]
     | inr t ↦ elim (decLt from r) [
-      | yes l ↦ least-from m (suc from) r (record { start = l; stop = omega (arith, f .stop); none = λ i a b. f .none i (omega arith) b; some = λ b. f .some (omega arith) })
+      | yes l ↦ least-from m (suc from) r
+          (record { start = l; stop = omega (arith, f .stop); none = λ i a b. f .none i (omega arith) b; some = λ b. f .some (omega arith) })
           ∙ sym (leastFrom-miss passes from m t)
       | no l ↦ let e : r ≡ from = omega (arith, f .start) in absurd (true≢false (sym (f .some (omega arith)) ∙ ap passes e ∙ t))
     ]
@@ -80,6 +81,66 @@ leading-first (suc n) h =
       none = λ i _ l. past-top (suc n) (suc k) (63 - i) (top .3) (omega (arith, top .1));
       some = λ _. ap (bitOf (suc n)) e ∙ at-top (suc n) k (top .2) (top .3);
     }
+
+-- ---- in a run
+
+-- a is the first from q on that passes, of those before `end`; `rest` come after it, and theirs is what is left of the run without its top digit
+pub record Top (f : ℕ → Bool) (q end run a rest : ℕ) : Type 0 where
+  pub first : FirstFrom f q end a
+  pub places : a + 1 + rest ≡ end
+  pub after : run ≡ 2 ^ rest + wordOf f (a + 1) rest
+
+-- as code finds it, by the leading zeros
+module _ (f : ℕ → Bool) (q end run : ℕ) (h : q ≤ end) (l : end ≤ q + 64) (e : run ≡ wordOf f q (end - q)) (pos : 0 < run) where
+  small : run < 2 ^ (end - q)
+  small = rw e (run-lt f q (end - q))
+
+  top : (j : ℕ) × (leadingZeros 64 run + suc j ≡ 64) × (2 ^ j ≤ run) × (run < 2 ^ suc j)
+  top = leading-top 64 run pos (lt-of-lt-of-le small (pow-mono {j = 64} (omega arith)))
+
+  within : top .0 < end - q
+  within = elim (decLt (top .0) (end - q)) [ yes b ↦ b | no g ↦ absurd (omega (arith, pow-mono {i = end - q} {j = top .0} (omega arith), small, top .2)) ]
+
+  bit-is : (p : ℕ) → q ≤ p → p < end → f p ≡ bitOf run (end - 1 - p)
+  bit-is p a b =
+      let at : q + (p - q) ≡ p = omega arith in
+      let place : end - q - 1 - (p - q) ≡ end - 1 - p = omega arith in
+      sym (ap₂ bitOf e (sym place) ∙ run-bit f q (end - q) (p - q) (omega arith) ∙ ap f at)
+
+  pub top-of : (leadingZeros 64 run ≤ 63) × Top f q end run (end - 1 - (63 - leadingZeros 64 run)) (63 - leadingZeros 64 run)
+  top-of =
+      let rest : ℕ = 63 - leadingZeros 64 run in
+      let a : ℕ = end - 1 - rest in
+      let same : rest ≡ top .0 = omega (arith, top .1) in
+      let lo : 2 ^ rest ≤ run = omega (arith, ap (λ m. 2 ^ m) same, top .2) in
+      let hi : run < 2 ^ suc rest = omega (arith, ap (λ m. 2 ^ suc m) same, top .3) in
+      let in-run : rest < end - q = omega (arith, within) in
+      let all : end - q ≡ a + 1 - q + rest = omega arith in
+      let next : q + (a + 1 - q) ≡ a + 1 = omega arith in
+      let tail : run % 2 ^ rest ≡ wordOf f (a + 1) rest =
+      ap (λ x. x % 2 ^ rest) (e ∙ ap (wordOf f q) all ∙ run-cat f q (a + 1 - q) rest) ∙ low (wordOf f q (a + 1 - q)) rest (run-lt f (q + (a + 1 - q)) rest)
+      ∙ ap (λ i. wordOf f i rest) next in
+      let split : run ≡ 1 * 2 ^ rest + (run - 2 ^ rest) = omega (arith, one-mul (2 ^ rest)) in
+      let left : run % 2 ^ rest ≡ run - 2 ^ rest = ap (λ x. x % 2 ^ rest) split ∙ low 1 rest (omega (arith, pow-suc 2 rest, pow-pos rest)) in (
+        omega (arith, top .1),
+        record {
+          first = record {
+            start = omega arith;
+            stop = omega arith;
+            none = λ p b c. bit-is p b (omega arith) ∙ past-top run (suc rest) (end - 1 - p) hi (omega arith);
+            some = λ b. bit-is a (omega arith) (omega arith) ∙ ap (bitOf run) {y = rest} (omega arith) ∙ at-top run rest lo hi;
+          };
+          places = omega arith;
+          after = omega (arith, tail, left);
+        },
+      )
+
+-- what code leaves of the run
+pub top-rest : {f : ℕ → Bool} {q end run a rest : ℕ} → Top f q end run a rest → rest < 64
+    → (2 ^ rest ≡ 1 * 2 ^ rest % 2 ^ 64) × (run - 1 * 2 ^ rest % 2 ^ 64 ≡ wordOf f (a + 1) (end - (a + 1)))
+top-rest {f} {end = end} {a = a} {rest = rest} t h =
+    let e = shifted-one rest h in
+    (sym e, omega (arith, e, t .after, ap (wordOf f (a + 1)) {x = rest} {y = end - (a + 1)} (omega (arith, t .places))))
 
 -- the ones of a word, `>> from`
 ones-is : (from : ℕ) → from < 64 → 18446744073709551615 / 2 ^ from ≡ 2 ^ (64 - from) - 1
@@ -140,14 +201,15 @@ bit-xor a b k =
 -- ---- in packed bytes
 
 -- a word has the 64 bits of a test from byte k on
-abbrev pub Holds : (ℕ → Bool) → ℕ → ℕ → Type 0
-Holds test k word = (j : ℕ) → j < 64 → test (8 * k + j) ≡ bitOf word (63 - j)
+abbrev pub WordHas : (ℕ → Bool) → ℕ → ℕ → Type 0
+WordHas test k word = (j : ℕ) → j < 64 → test (8 * k + j) ≡ bitOf word (63 - j)
 
-pub holds-bits : (xs : List ℕ) (k : ℕ) {w : ℕ} → w ≡ runOf xs (8 * k) 64 → Holds (bitAt xs) k w
-holds-bits xs k e j h = sym (ap (λ x. bitOf x (63 - j)) e ∙ run-bit xs (8 * k) 64 j h)
+word-has-bits : (xs : List ℕ) (k : ℕ) {w : ℕ} → w ≡ runOf xs (8 * k) 64 → WordHas (bitAt xs) k w
+word-has-bits xs k e j h = sym (ap (λ x. bitOf x (63 - j)) e ∙ run-bit (bitAt xs) (8 * k) 64 j h)
 
-pub holds-differ : (xs ys : List ℕ) (k : ℕ) {u v : ℕ} → u ≡ runOf xs (8 * k) 64 → v ≡ runOf ys (8 * k) 64 → Holds (λ i. differ (bitAt xs i) (bitAt ys i)) k (bitXor u v)
-holds-differ xs ys k {u} {v} e f j h = ap₂ differ (holds-bits xs k e j h) (holds-bits ys k f j h) ∙ sym (bit-xor u v (63 - j))
+pub word-has-differing : (xs ys : List ℕ) (k : ℕ) {u v : ℕ} → u ≡ runOf xs (8 * k) 64 → v ≡ runOf ys (8 * k) 64
+    → WordHas (λ i. differ (bitAt xs i) (bitAt ys i)) k (bitXor u v)
+word-has-differing xs ys k {u} {v} e f j h = ap₂ differ (word-has-bits xs k e j h) (word-has-bits ys k f j h) ∙ sym (bit-xor u v (63 - j))
 
 -- a walk from `from` to `to` has come to i, and none before i passes the test
 pub record Passed (test : ℕ → Bool) (from to i : ℕ) : Type 0 where
@@ -167,7 +229,8 @@ passed-all {from = from} {to} {i} p h = record {
 }
 
 -- the walk's turn, by what was found in the word from i's byte on
-module _ (word : ℕ) {test : ℕ → Bool} {from to i found : ℕ} (p : Passed test from to i) (holds : Holds test (i / 8) word) (f : FirstFrom (λ j. bitOf word (63 - j)) (i % 8) 64 found) where
+module _ (word : ℕ) {test : ℕ → Bool} {from to i found : ℕ} (p : Passed test from to i) (holds : WordHas test (i / 8) word)
+    (f : FirstFrom (λ j. bitOf word (63 - j)) (i % 8) 64 found) where
   clear : (k : ℕ) → from ≤ k → k < i + (found - i % 8) → test k ≡ false
   clear k a b = elim (decLt k i) [
     | yes l ↦ p .none k a l

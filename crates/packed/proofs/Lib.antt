@@ -5,3 +5,5 @@ pub mod FirstLaws
 pub mod PairLaws
 pub mod RowLaws
 pub mod RunLaws
+pub mod SetLaws
+pub mod ShiftLaws

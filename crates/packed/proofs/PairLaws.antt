@@ -8,7 +8,8 @@ use native.Mathlib.Nat.{le-of-lt, le-refl, le-trans, max-comm, max-eq-right, min
 use native.Mathlib.Numerals.{sub-one}
 use native.Mathlib.Omega.{arith}
 use lib.ListN.{length}
-use Rattle.packed.specs.Pairs.{pairCount, pairIndex, Room}
+use Rattle.packed.specs.Pairs.{pairCount, pairIndex}
+use Rattle.packed.specs.inside.Room.{Room}
 
 square : (n : ℕ) → n * (n - 1) + n ≡ n * n
 square zero = refl
@@ -65,7 +66,8 @@ room-within a b n edges ha hb r = room-mono (omega arith) r
 
 -- the bit of a pair is within the bytes that have room for its second node
 pub pair-room : (a b : ℕ) (edges : List ℕ) → a < b → Room (b + 1) edges → pairIndex a b / 8 < length edges
-pair-room a b edges h r = pair-within a b (length edges) (omega arith) (subst (λ m. pairCount (m + 1) ≤ 8 * length edges) (sym (max-eq-right (le-of-lt h))) (r .bits))
+pair-room a b edges h r =
+    pair-within a b (length edges) (omega arith) (subst (λ m. pairCount (m + 1) ≤ 8 * length edges) (sym (max-eq-right (le-of-lt h))) (r .bits))
 
 -- each number below `pairCount n` is that of a pair
 pub pair-onto : (n i : ℕ) → i < pairCount n → (a : ℕ) × (b : ℕ) × (a < b) × (b < n) × (pairIndex a b ≡ i)

@@ -4,7 +4,8 @@ ghost use mathlib.Core.Path.{_≡_};
 ghost use Prim.Native.Nat.{_-_, _*_, _/_, _≤_, _<_};
 ghost use lib.ListN.{length, replicate};
 ghost use Rattle.arith.specs.Digits.{bitOf};
-ghost use Rattle.packed.specs.Bits.{bitAt, withBit, differ, FirstFrom};
+ghost use Rattle.packed.specs.Bits.{bitAt, withBit, differ};
+ghost use Rattle.packed.specs.inside.Search.{FirstFrom};
 
 // Bit i.
 pub fn get(bits: &[u8], i: usize) -> bool
@@ -42,26 +43,6 @@ fn first_one(word: u64, from: usize) -> usize
     ensures { λ r. ⌜ FirstFrom (λ j. bitOf word (63 - j)) from 64 r ⌝ }
 {
     u64::leading_zeros(word & (18446744073709551615u64 >> from)) as usize
-}
-
-// The first bit from `from` on that is set, and `to` where none before `to` is.
-pub fn next_set(bits: &[u8], from: usize, to: usize) -> usize
-    requires { ⌜ (from ≤ to) × (to ≤ 8 * length (now bits)) ⌝ }
-    ensures { λ r. ⌜ FirstFrom (bitAt (now (bits .entry))) from to r ⌝ }
-{
-    let mut i = from;
-    while i < to {
-        let place = i % 8;
-        let found = first_one(word_at(bits, i / 8), place);
-        if to - i <= found - place {
-            return to;
-        }
-        if found < 64 {
-            return i + (found - place);
-        }
-        i += 64 - place;
-    }
-    to
 }
 
 // The first bit from `from` on that is set in one of the two and not in the other, and `to` where none before `to` is.

@@ -2,29 +2,19 @@
 use crate::edges::MAX_NODES;
 use crate::edges::row_start;
 use crate::runs::MAX_RUN;
+use crate::runs::least;
 use crate::runs::run_of;
 ghost use mathlib.Core.Path.{_≡_};
-ghost use Prim.Native.Nat.{_+_, _≤_, _<_, min};
-ghost use Rattle.arith.specs.Sums.{countTo};
-ghost use Rattle.packed.specs.Pairs.{maxNodes, Room};
-ghost use Rattle.packed.specs.Edges.{edge};
-ghost use Rattle.packed.specs.Runs.{maxRun};
-ghost use Rattle.packed.specs.Degrees.{degreesOf, degreesTo};
-
-// The nodes of the next run, of the nodes that are left.
-fn run_length(left: usize) -> usize
-    ensures { λ r. ⌜ r ≡ min left maxRun ⌝ }
-{
-    if left < MAX_RUN {
-        return left;
-    }
-    MAX_RUN
-}
+ghost use Prim.Native.Nat.{_+_, _<_};
+ghost use Rattle.arith.specs.Sums.{bit};
+ghost use Rattle.packed.specs.Pairs.{maxNodes};
+ghost use Rattle.packed.specs.inside.Room.{Room};
+ghost use Rattle.packed.specs.inside.Degrees.{Counted, degreesOf, degreesTo, InRow, moved, shifted, Shiftable};
 
 // Counts the edges of node b to the nodes from `at` up to `end` at these nodes, and returns how many they are.
 fn count_run(edges: &[u8], counts: &mut [u16], b: usize, at: usize, end: usize) -> u16
-    requires { ⌜ (b < maxNodes) × Room (b + 1) (now edges) × (at < end) × (end ≤ at + maxRun) × (end ≤ b) × (now counts ≡ degreesTo (now edges) b at) ⌝ }
-    ensures { λ r. ⌜ (now (counts .exit) ≡ degreesTo (now (edges .entry)) b end) × (countTo (edge (now (edges .entry)) b) at + r ≡ countTo (edge (now (edges .entry)) b) end) ⌝ }
+    requires { ⌜ InRow (now edges) b at end × (now counts ≡ degreesTo (now edges) b at) ⌝ }
+    ensures { λ r. ⌜ Counted (now (edges .entry)) (now (counts .exit)) b at end r ⌝ }
 {
     let mut own: u16 = 0;
     let mut run = run_of(edges, row_start(b) + at, end - at);
@@ -46,7 +36,7 @@ fn count_row(edges: &[u8], counts: &mut [u16], b: usize)
     let mut own: u16 = 0;
     let mut at: usize = 0;
     while at < b {
-        let end = at + run_length(b - at);
+        let end = at + least(b - at, MAX_RUN);
         own += count_run(edges, counts, b, at, end);
         at = end;
     }
@@ -63,4 +53,26 @@ pub fn degrees_of(edges: &[u8], n: usize) -> [u16; MAX_NODES]
         count_row(edges, &mut counts[..], b);
     }
     counts
+}
+
+// A degree with one edge more where `on`, and with one less elsewhere.
+fn moved(degree: u16, on: bool) -> u16
+    requires { ⌜ (0 < degree + bit on) × (degree + bit on < 65536) ⌝ }
+    ensures { λ r. ⌜ r ≡ moved on degree ⌝ }
+{
+    if on {
+        return degree + 1;
+    }
+    degree - 1
+}
+
+// The degrees of a and b with one edge more where `on`, and with one less elsewhere.
+pub fn shift(degrees: &mut [u16], a: usize, b: usize, on: bool)
+    requires { ⌜ Shiftable (now degrees) a b on ⌝ }
+    ensures { λ _. ⌜ now (degrees .exit) ≡ shifted (now (degrees .entry)) a b on ⌝ }
+{
+    let first = moved(degrees[a], on);
+    let second = moved(degrees[b], on);
+    degrees[a] = first;
+    degrees[b] = second;
 }

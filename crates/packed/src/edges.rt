@@ -1,11 +1,13 @@
 // The edges of an undirected graph of at most 256 nodes: a bit for each pair of nodes.
 use crate::bits::get;
-use crate::bits::next_set;
 use crate::bits::put;
+use crate::rows::row_of;
+use crate::rows::size_of;
 ghost use mathlib.Core.Path.{_≡_};
 ghost use Prim.Native.Nat.{_+_, _≤_, _<_, max};
 ghost use Rattle.arith.specs.Sums.{countTo};
-ghost use Rattle.packed.specs.Pairs.{maxNodes, pairCount, pairIndex, Room};
+ghost use Rattle.packed.specs.Pairs.{maxNodes, pairCount, pairIndex};
+ghost use Rattle.packed.specs.inside.Room.{Room};
 ghost use Rattle.packed.specs.Edges.{edge, withEdge};
 
 // The most nodes that a graph may have.
@@ -55,41 +57,10 @@ pub fn link(edges: &mut [u8], a: usize, b: usize, on: bool)
     }
 }
 
-// How many nodes below p are linked to p.
-fn degree_below(edges: &[u8], p: usize) -> usize
-    requires { ⌜ Room (p + 1) (now edges) ⌝ }
-    ensures { λ r. ⌜ r ≡ countTo (edge (now (edges .entry)) p) p ⌝ }
-{
-    let start = row_start(p);
-    let mut count: usize = 0;
-    let mut i = next_set(edges, start, start + p);
-    while i < start + p {
-        count += 1;
-        i = next_set(edges, i + 1, start + p);
-    }
-    count
-}
-
-// How many of the n nodes are linked to p, `below` of them below p. The bit of p and q + 1 is q bits after that of p and q.
-fn degree_above(edges: &[u8], n: usize, p: usize, below: usize) -> usize
-    requires { ⌜ (p < n) × Room n (now edges) × (below ≡ countTo (edge (now edges) p) p) ⌝ }
-    ensures { λ r. ⌜ r ≡ countTo (edge (now (edges .entry)) p) n ⌝ }
-{
-    let mut count = below;
-    let mut i = row_start(p + 1) + p;
-    for q in p + 1..n {
-        if get(edges, i) {
-            count += 1;
-        }
-        i += q;
-    }
-    count
-}
-
 // How many of the n nodes are linked to p.
 pub fn degree(edges: &[u8], n: usize, p: usize) -> usize
     requires { ⌜ (p < n) × Room n (now edges) ⌝ }
     ensures { λ r. ⌜ r ≡ countTo (edge (now (edges .entry)) p) n ⌝ }
 {
-    degree_above(edges, n, p, degree_below(edges, p))
+    size_of(row_of(edges, n, p), (n + 31) / 32)
 }

@@ -2,4 +2,5 @@
 pub mod bits;
 pub mod degrees;
 pub mod edges;
+pub mod rows;
 pub mod runs;

@@ -1,11 +1,22 @@
 // Runs of bits as numbers, the first bit the highest.
 ghost use mathlib.Core.Path.{_≡_};
-ghost use Prim.Native.Nat.{_+_, _*_, _/_, _%_, _^_, _≤_, _<_};
+ghost use Prim.Native.Nat.{_+_, _*_, _/_, _%_, _^_, _≤_, _<_, min};
 ghost use lib.ListN.{length};
-ghost use Rattle.packed.specs.Runs.{runOf, maxRun};
+ghost use Rattle.packed.specs.Bits.{runOf};
+ghost use Rattle.packed.specs.inside.Runs.{maxRun};
 
 // The most bits that a run may have: they are within eight bytes wherever they begin.
 pub const MAX_RUN: usize = 56;
+
+// The lesser of two numbers.
+pub(crate) fn least(a: usize, b: usize) -> usize
+    ensures { λ r. ⌜ r ≡ min a b ⌝ }
+{
+    if a < b {
+        return a;
+    }
+    b
+}
 
 // The 32 bits from byte k on.
 fn quad_at(bits: &[u8], k: usize) -> u64

@@ -1,42 +1,38 @@
 -- The list as the port answers it: one number, and everything lent. Assumes nothing.
 use mathlib.Core.List.{List}
 use Prim.Native.Nat.{ℕ}
+use denote.Ref.{now}
+use Rattle.state.specs.Lent.{atEntry, atExit, Moments}
 use Rattle.state.specs.Refusal.{oneNumber}
 use Rattle.state.specs.State.{State}
 use Rattle.topk.specs.declared.entries.Entry.{Entry}
 use Rattle.topk.specs.List.{Listed, listCall}
-use Rattle.listing.specs.Records.{Recorded, entriesCall}
+use Rattle.topk.specs.ListLent.{EntryMoments}
+use Rattle.listing.specs.Records.{entriesCall}
 
--- ---- over plain numbers
-
-pub record Ported : Type 0 where
+-- the answer, and everything lent as the call leaves it; the entries are numbers in a row, or records
+pub record Ported (A : Type 0) : Type 0 where
   pub answer : ℕ
   pub after : State
-  pub entries : List ℕ
+  pub entries : List A
   pub scratch : List ℕ
 
-abbrev pub ported : ℕ → State → List ℕ → List ℕ → Ported
+abbrev pub ported : {A : Type 0} → ℕ → State → List A → List ℕ → Ported A
 ported answer after entries scratch = record { answer = answer; after = after; entries = entries; scratch = scratch }
 
-abbrev pub answered : Listed → Ported
-answered l = ported (oneNumber (l .refusal) (l .recomputed)) (l .after) (l .entries) (l .scratch)
+abbrev pub asOne : {A : Type 0} → Listed A → Ported A
+asOne l = ported (oneNumber (l .refusal) (l .recomputed)) (l .after) (l .entries) (l .scratch)
 
-unfoldable pub portList : State → List ℕ → List ℕ → Ported
-portList s entries scratch = answered (listCall s entries scratch)
+-- the list over plain numbers, and over entries as records
+abbrev pub portList : State → List ℕ → List ℕ → Ported ℕ
+portList s entries scratch = asOne (listCall s entries scratch)
 
--- ---- over entries as records
+abbrev pub portEntries : State → List Entry → List ℕ → Ported Entry
+portEntries s entries scratch = asOne (entriesCall s entries scratch)
 
-pub record PortedEntries : Type 0 where
-  pub answer : ℕ
-  pub after : State
-  pub entries : List Entry
-  pub scratch : List ℕ
+-- such a call of what is lent at entry, and an answer with what is lent at exit
+abbrev pub atPortEntry : {A : Type 0} → (State → List A → List ℕ → Ported A) → Moments → Moments → Moments → EntryMoments A → Moments → Ported A
+atPortEntry call links figures marks entries scratch = call (atEntry links figures marks) (now (entries .entry)) (now (scratch .entry))
 
-abbrev pub portedEntries : ℕ → State → List Entry → List ℕ → PortedEntries
-portedEntries answer after entries scratch = record { answer = answer; after = after; entries = entries; scratch = scratch }
-
-abbrev pub answeredEntries : Recorded → PortedEntries
-answeredEntries l = portedEntries (oneNumber (l .refusal) (l .recomputed)) (l .after) (l .entries) (l .scratch)
-
-unfoldable pub portEntries : State → List Entry → List ℕ → PortedEntries
-portEntries s entries scratch = answeredEntries (entriesCall s entries scratch)
+abbrev pub atPortExit : {A : Type 0} → ℕ → Moments → Moments → Moments → EntryMoments A → Moments → Ported A
+atPortExit answer links figures marks entries scratch = ported answer (atExit links figures marks) (now (entries .exit)) (now (scratch .exit))

@@ -9,10 +9,11 @@ use topk::list::Answer;
 use topk::list::list;
 ghost use mathlib.Core.Path.{_≡_};
 ghost use Rattle.merge.specs.Reconcile.{reconcileCall};
-ghost use Rattle.state.specs.Outcome.{left, state};
+ghost use Rattle.state.specs.Outcome.{left};
 ghost use Rattle.state.specs.Refusal.{oneNumber};
+ghost use Rattle.state.specs.Lent.{atEntry, atExit};
 ghost use Rattle.calls.specs.Snapshot.{loadCall, written, writeCall};
-ghost use Rattle.port.specs.Port.{ported, portList, portedEntries, portEntries};
+ghost use Rattle.port.specs.Port.{atPortEntry, atPortExit, portEntries, portList};
 
 // Loads a sheet.
 #[no_mangle]
@@ -22,7 +23,7 @@ pub extern "C" fn fj_port_load(
     marks: &mut [u8],
     sheet: &[u8],
 ) -> u64
-    ensures { λ r. ⌜ left r (now (links .exit)) (now (figures .exit)) (now (marks .exit)) ≡ loadCall (state (now (links .entry)) (now (figures .entry)) (now (marks .entry))) (now (sheet .entry)) ⌝ }
+    ensures { λ r. ⌜ left r (atExit links figures marks) ≡ loadCall (atEntry links figures marks) (now (sheet .entry)) ⌝ }
 {
     load(links, figures, marks, sheet)
 }
@@ -35,7 +36,7 @@ pub extern "C" fn fj_port_write(
     marks: &[u8],
     sheet: &mut [u8],
 ) -> u64
-    ensures { λ r. ⌜ written r (now (sheet .exit)) ≡ writeCall (state (now (links .entry)) (now (figures .entry)) (now (marks .entry))) (now (sheet .entry)) ⌝ }
+    ensures { λ r. ⌜ written r (now (sheet .exit)) ≡ writeCall (atEntry links figures marks) (now (sheet .entry)) ⌝ }
 {
     write(links, figures, marks, sheet)
 }
@@ -56,7 +57,7 @@ pub extern "C" fn fj_port_list(
     entries: &mut [u64],
     scratch: &mut [u8],
 ) -> u64
-    ensures { λ r. ⌜ ported r (state (now (links .entry)) (now (figures .exit)) (now (marks .exit))) (now (entries .exit)) (now (scratch .exit)) ≡ portList (state (now (links .entry)) (now (figures .entry)) (now (marks .entry))) (now (entries .entry)) (now (scratch .entry)) ⌝ }
+    ensures { λ r. ⌜ atPortExit r links figures marks entries scratch ≡ atPortEntry portList links figures marks entries scratch ⌝ }
 {
     number_of(list(links, figures, marks, entries, scratch))
 }
@@ -70,7 +71,7 @@ pub extern "C" fn fj_port_list_entries(
     entries: &mut [Entry],
     scratch: &mut [u8],
 ) -> u64
-    ensures { λ r. ⌜ portedEntries r (state (now (links .entry)) (now (figures .exit)) (now (marks .exit))) (now (entries .exit)) (now (scratch .exit)) ≡ portEntries (state (now (links .entry)) (now (figures .entry)) (now (marks .entry))) (now (entries .entry)) (now (scratch .entry)) ⌝ }
+    ensures { λ r. ⌜ atPortExit r links figures marks entries scratch ≡ atPortEntry portEntries links figures marks entries scratch ⌝ }
 {
     number_of(list_entries(links, figures, marks, entries, scratch))
 }
@@ -84,7 +85,7 @@ pub extern "C" fn fj_port_reconcile(
     theirs: &[u8],
     original: &[u8],
 ) -> u64
-    ensures { λ r. ⌜ left r (now (links .exit)) (now (figures .exit)) (now (marks .exit)) ≡ reconcileCall (state (now (links .entry)) (now (figures .entry)) (now (marks .entry))) (now (theirs .entry)) (now (original .entry)) ⌝ }
+    ensures { λ r. ⌜ left r (atExit links figures marks) ≡ reconcileCall (atEntry links figures marks) (now (theirs .entry)) (now (original .entry)) ⌝ }
 {
     reconcile(links, figures, marks, theirs, original)
 }

@@ -9,7 +9,7 @@ ghost use Rattle.replay.specs.Limits.{lineBytes, maxDigits, maxWord};
 const LINE: usize = 80;
 
 // Copies bytes to a position of a line, and answers the position past them.
-fn append(line: &mut [u8; LINE], at: usize, bytes: &[u8]) -> usize
+fn append_bytes(line: &mut [u8; LINE], at: usize, bytes: &[u8]) -> usize
     requires { ⌜ at + length (now bytes) ≤ lineBytes ⌝ }
     ensures { λ r. ⌜ r ≡ at + length (now (bytes .entry)) ⌝ }
 {
@@ -27,7 +27,7 @@ fn append_number(line: &mut [u8; LINE], at: usize, x: u64) -> usize
 {
     let mut digits = [0u8; 20];
     let count = io::decimal(x, &mut digits);
-    append(line, at, &digits[..count])
+    append_bytes(line, at, &digits[..count])
 }
 
 // Appends a space and a number.
@@ -54,7 +54,7 @@ pub(crate) fn word(text: &[u8])
     requires { ⌜ length (now text) ≤ maxWord ⌝ }
 {
     let mut line = [0u8; LINE];
-    let at = append(&mut line, 0, text);
+    let at = append_bytes(&mut line, 0, text);
     send(line, at);
 }
 
@@ -63,7 +63,7 @@ pub(crate) fn one(text: &[u8], x: u64)
     requires { ⌜ length (now text) ≤ maxWord ⌝ }
 {
     let mut line = [0u8; LINE];
-    let first = append(&mut line, 0, text);
+    let first = append_bytes(&mut line, 0, text);
     let at = append_field(&mut line, first, x);
     send(line, at);
 }
@@ -81,7 +81,7 @@ pub(crate) fn three(text: &[u8], x: u64, y: u64, z: u64)
     requires { ⌜ length (now text) ≤ maxWord ⌝ }
 {
     let mut line = [0u8; LINE];
-    let first = append(&mut line, 0, text);
+    let first = append_bytes(&mut line, 0, text);
     let second = append_field(&mut line, first, x);
     let third = append_field(&mut line, second, y);
     let at = append_field(&mut line, third, z);

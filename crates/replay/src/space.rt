@@ -8,7 +8,7 @@ ghost use Prim.Native.Nat.{_+_, _*_};
 ghost use lib.ListN.{replicate};
 ghost use Rattle.packed.specs.Pairs.{maxNodes};
 ghost use Rattle.script.specs.Limits.{maxBytes};
-ghost use Rattle.state.specs.Sizes.{maxEdgeBytes};
+ghost use Rattle.state.specs.inside.MaxSizes.{maxEdgeBytes};
 ghost use Rattle.state.specs.Marks.{markBytes};
 
 // The most bytes of a script, and one more to tell a longer input.

@@ -5,10 +5,9 @@ use Prim.Native.Nat.{suc, zero, ℕ}
 use denote.Ref.{RefT, now}
 use Rattle.arith.specs.Digits.{bitOf, digit}
 use Rattle.arith.specs.Sums.{anyTo}
-use Rattle.packed.specs.Bits.{bitAt}
-use Rattle.packed.specs.Runs.{runOf}
-use Rattle.script.specs.Moves.{after, start, yields}
-use Rattle.script.specs.Record.{bitsLeft, endsAt, itemAt, pastItem, stepAt}
+use Rattle.packed.specs.Bits.{bitAt, wordOf}
+use Rattle.script.specs.Moves.{readerAfter, startOf, yields}
+use Rattle.script.specs.Record.{bitsLeft, endsAt, itemAt, readAt}
 use Rattle.script.specs.declared.reader.Reader.{Reader}
 use Rattle.script.specs.declared.step.Item.{Item}
 use Rattle.script.specs.declared.step.Item.the-variants.{Add, End, ListFirst, Malformed}
@@ -20,22 +19,23 @@ listing = 3 ∷ 64 ∷ 0 ∷ 80 ∷ 0 ∷ 36 ∷ 0 ∷ 15 ∷ 1 ∷ 0 ∷ 0 ∷ 
 
 -- the steps at the positions where the reader comes by, and after the end
 abbrev steps : List Step
-steps = stepAt listing 8 ∷ stepAt listing 26 ∷ stepAt listing 44 ∷ stepAt listing 62 ∷ stepAt listing 80 ∷ stepAt listing 98 ∷ []
+steps = readAt listing 8 ∷ readAt listing 26 ∷ readAt listing 44 ∷ readAt listing 62 ∷ readAt listing 80 ∷ readAt listing 98 ∷ []
 
 -- a step by what is yielded and the position that the reader is left at
-abbrev by : Item → ℕ → Step
-by item at = record { item = item; at = at }
+abbrev yieldsAt : Item → ℕ → Step
+yieldsAt item at = record { item = item; at = at }
 
-pub listing-steps : steps ≡ (by (Add 0 1) 26 ∷ by (Add 0 2) 44 ∷ by (Add 0 3) 62 ∷ by (ListFirst 2) 80 ∷ by End 80 ∷ by Malformed 98 ∷ [])
-unfolding anyTo bitAt bitOf bitsLeft digit endsAt itemAt pastItem runOf stepAt
+pub listing-steps : steps
+    ≡ (yieldsAt (Add 0 1) 26 ∷ yieldsAt (Add 0 2) 44 ∷ yieldsAt (Add 0 3) 62 ∷ yieldsAt (ListFirst 2) 80 ∷ yieldsAt End 80 ∷ yieldsAt Malformed 98 ∷ [])
+unfolding anyTo bitAt bitOf bitsLeft digit endsAt itemAt readAt wordOf
 listing-steps = refl
 
 -- what a reader yields, time after time
 abbrev run : ℕ → Reader → List Item
 run zero r = []
-run (suc k) r = yields r ∷ run k (after r)
+run (suc k) r = yields r ∷ run k (readerAfter r)
 
 -- a reader over the listing, from its start; at the end it stays
-pub listing-read : (lent : RefT (List ℕ)) → now lent ≡ listing → run 6 (start lent) ≡ (Add 0 1 ∷ Add 0 2 ∷ Add 0 3 ∷ ListFirst 2 ∷ End ∷ End ∷ [])
-unfolding anyTo bitAt bitOf bitsLeft digit endsAt itemAt pastItem runOf stepAt
-listing-read lent e = ap (λ (s : List ℕ). run 6 (start (record { ptr = lent .ptr; name = lent .name; now = s }))) e
+pub listing-read : (lent : RefT (List ℕ)) → now lent ≡ listing → run 6 (startOf lent) ≡ (Add 0 1 ∷ Add 0 2 ∷ Add 0 3 ∷ ListFirst 2 ∷ End ∷ End ∷ [])
+unfolding anyTo bitAt bitOf bitsLeft digit endsAt itemAt readAt wordOf
+listing-read lent e = ap (λ (s : List ℕ). run 6 (startOf (record { ptr = lent .ptr; name = lent .name; now = s }))) e

@@ -1,21 +1,22 @@
 -- What the reader's tests show of what stands at a position. Assumes nothing.
-use mathlib.Core.Bool.{Bool, and-false, cond, false, true}
+use mathlib.Core.Bool.{Bool, and-false, cond, false}
 use mathlib.Core.List.{List}
-use mathlib.Core.Path.{ap, sym, _∙_, _≡_}
-use Prim.Native.Nat.{_*_, _+_, _-_, _<_, ℕ, _≤_}
+use mathlib.Core.Path.{ap, sym, _≡_}
+use Prim.Native.Nat.{_*_, _+_, _-_, _<_, _^_, ℕ, _≤_}
 use native.Mathlib.Decide.{decLt}
 use native.Mathlib.Omega.{arith}
-use borrow.Author.Tests.{eq-eqb, le-ltb, lt-ltb, ne-eqb}
+use borrow.Author.Tests.{le-ltb, lt-ltb, ne-eqb}
 use lib.Dec.{eqb}
 use lib.ListN.{length}
 use Rattle.packed.proofs.RunLaws.{run-cat-zero, run-none-set}
-use Rattle.packed.specs.Runs.{runOf}
+use Rattle.packed.specs.Bits.{bitAt, runOf}
 use Rattle.script.specs.Limits.{maxBytes, recordBits}
-use Rattle.script.specs.Record.{aAt, bAt, bitsLeft, endsAt, itemAt, kindAt}
+use Rattle.script.specs.Record.{aAt, bAt, bitsLeft, endsAt, itemAt, itemOf, kindAt, pastItem}
+use Rattle.script.specs.declared.step.Item.{Item}
 use Rattle.script.specs.declared.step.Item.the-variants.{Add, End, ListFirst, Malformed, Remove}
 
 -- what the reader has read at a position: enough bits are left, and the record's three numbers
-pub record Found (script : List ℕ) (at left kind a b : ℕ) : Type 0 where
+pub record RecordRead (script : List ℕ) (at left kind a b : ℕ) : Type 0 where
   pub bits : left ≡ bitsLeft script at
   pub enough : recordBits ≤ left
   pub kinds : kind ≡ kindAt script at
@@ -55,7 +56,8 @@ module _ (script : List ℕ) (at : ℕ) where
       let all : left - 2 ≡ 8 + (8 + rest) = omega arith in
       let b-at : at + 2 + 8 ≡ at + 10 = omega arith in
       let rest-at : at + 10 + 8 ≡ at + recordBits = omega arith in
-      rw (← e, lt-ltb rest 8 l, q, all, run-cat-zero script (at + 2) 8 (8 + rest), b-at, run-cat-zero script (at + 10) 8 rest, rest-at, run-none-set script (at + recordBits) rest)
+      rw (← e, lt-ltb rest 8 l, q, all, run-cat-zero (bitAt script) (at + 2) 8 (8 + rest), b-at, run-cat-zero (bitAt script) (at + 10) 8 rest, rest-at)
+      (rw (run-none-set (bitAt script) (at + recordBits) rest))
 
   -- ---- the records
 
@@ -63,31 +65,31 @@ module _ (script : List ℕ) (at : ℕ) where
   unfolding itemAt
   item-few left e h = rw (← e, lt-ltb left recordBits h)
 
-  module _ {left kind a b : ℕ} (f : Found script at left kind a b) where
+  module _ {left kind a b : ℕ} (f : RecordRead script at left kind a b) where
+    -- what is found, by its kind and whether it ends the script
+    by-kind : itemOf kind a b (endsAt script at) ≡ itemAt script at
+    unfolding itemAt
+    by-kind = rw (← f .bits, ← f .kinds, ← f .first, ← f .second, le-ltb left recordBits (f .enough))
+
     pub item-add : kind ≡ 1 → Add a b ≡ itemAt script at
-    unfolding itemAt
-    item-add k = rw (← f .bits, ← f .kinds, ← f .first, ← f .second, le-ltb left recordBits (f .enough), eq-eqb kind 1 k)
+    item-add k = rw k at by-kind
 
-    pub item-remove : (kind ≡ 1 → ⊥) → kind ≡ 2 → Remove a b ≡ itemAt script at
-    unfolding itemAt
-    item-remove d1 k = rw (← f .bits, ← f .kinds, ← f .first, ← f .second, le-ltb left recordBits (f .enough), ne-eqb kind 1 d1, eq-eqb kind 2 k)
+    pub item-remove : kind ≡ 2 → Remove a b ≡ itemAt script at
+    item-remove k = rw k at by-kind
 
-    pub item-list : (kind ≡ 1 → ⊥) → (kind ≡ 2 → ⊥) → kind ≡ 3 → b ≡ 0 → ListFirst (a + 1) ≡ itemAt script at
-    unfolding itemAt
-    item-list d1 d2 k zb =
-        rw (← f .bits, ← f .kinds, ← f .first, ← f .second, le-ltb left recordBits (f .enough), ne-eqb kind 1 d1, ne-eqb kind 2 d2, eq-eqb kind 3 k, eq-eqb b 0 zb)
+    pub item-list : kind ≡ 3 → b ≡ 0 → ListFirst (a + 1) ≡ itemAt script at
+    item-list k zb = rw (k, zb) at by-kind
 
-    pub item-list-b : (kind ≡ 1 → ⊥) → (kind ≡ 2 → ⊥) → kind ≡ 3 → (b ≡ 0 → ⊥) → Malformed ≡ itemAt script at
-    unfolding itemAt
-    item-list-b d1 d2 k db =
-        rw (← f .bits, ← f .kinds, ← f .first, ← f .second, le-ltb left recordBits (f .enough), ne-eqb kind 1 d1, ne-eqb kind 2 d2, eq-eqb kind 3 k, ne-eqb b 0 db)
+    pub item-list-b : kind ≡ 3 → (b ≡ 0 → ⊥) → Malformed ≡ itemAt script at
+    item-list-b k db = rw (k, ne-eqb b 0 db) at by-kind
 
-    item-other : (kind ≡ 1 → ⊥) → (kind ≡ 2 → ⊥) → (kind ≡ 3 → ⊥) → cond (endsAt script at) End Malformed ≡ itemAt script at
-    unfolding itemAt
-    item-other d1 d2 d3 = rw (← f .bits, ← f .kinds, ← f .first, ← f .second, le-ltb left recordBits (f .enough), ne-eqb kind 1 d1, ne-eqb kind 2 d2, ne-eqb kind 3 d3)
+    pub item-other : (kind ≡ 1 → ⊥) → (kind ≡ 2 → ⊥) → (kind ≡ 3 → ⊥) → {ends : Bool} → endsAt script at ≡ ends → cond ends End Malformed ≡ itemAt script at
+    item-other d1 d2 d3 e = rw (ne-eqb kind 1 d1, ne-eqb kind 2 d2, ne-eqb kind 3 d3, e) at by-kind
 
-    pub item-end : (kind ≡ 1 → ⊥) → (kind ≡ 2 → ⊥) → (kind ≡ 3 → ⊥) → endsAt script at ≡ true → End ≡ itemAt script at
-    item-end d1 d2 d3 e = ap (λ (x : Bool). cond x End Malformed) (sym e) ∙ item-other d1 d2 d3
+-- the position past what is known to stand there
+module _ (at : ℕ) {item known : Item} (e : item ≡ known) where
+  pub past-known : pastItem known at ≡ pastItem item at
+  past-known = sym (ap (λ x. pastItem x at) e)
 
-    pub item-bad-end : (kind ≡ 1 → ⊥) → (kind ≡ 2 → ⊥) → (kind ≡ 3 → ⊥) → endsAt script at ≡ false → Malformed ≡ itemAt script at
-    item-bad-end d1 d2 d3 e = ap (λ (x : Bool). cond x End Malformed) (sym e) ∙ item-other d1 d2 d3
+  pub past-below : pastItem item at < 2 ^ 64 → pastItem known at < 2 ^ 64
+  past-below h = rw past-known h

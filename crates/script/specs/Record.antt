@@ -6,8 +6,7 @@ use Prim.Native.Nat.{ℕ, _+_, _*_, _-_}
 use lib.Dec.{eqb, ltb}
 use lib.ListN.{length}
 use Rattle.arith.specs.Sums.{anyTo}
-use Rattle.packed.specs.Bits.{bitAt}
-use Rattle.packed.specs.Runs.{runOf}
+use Rattle.packed.specs.Bits.{bitAt, runOf}
 use Rattle.script.specs.Limits.{maxBytes, recordBits}
 use Rattle.script.specs.declared.step.Item.{Item}
 use Rattle.script.specs.declared.step.Item.the-variants.{Add, Remove, ListFirst, End, Malformed}
@@ -33,20 +32,21 @@ endsAt script at =
     let rest : ℕ = bitsLeft script at - recordBits in
     eqb (aAt script at) 0 && (eqb (bAt script at) 0 && (ltb rest 8 && not (anyTo (λ i. bitAt script (at + recordBits + i)) rest)))
 
--- With too few bits left, malformed. Kind 1 adds the link a, b; 2 removes it; 3 lists k = a + 1 with b = 0; 0, the one kind that is left of 2 bits, ends.
-unfoldable pub itemAt : List ℕ → ℕ → Item
-itemAt script at =
-    let kind : ℕ = kindAt script at in
-    let a : ℕ = aAt script at in
-    let b : ℕ = bAt script at in
-    cond (ltb (bitsLeft script at) recordBits) Malformed
-    (cond (eqb kind 1) (Add a b)
+-- Kind 1 adds the link a, b; 2 removes it; 3 lists k = a + 1 with b = 0; 0, the one kind that is left of 2 bits, ends where it may.
+abbrev pub itemOf : ℕ → ℕ → ℕ → Bool → Item
+itemOf kind a b ends =
+    cond (eqb kind 1) (Add a b)
     (cond (eqb kind 2) (Remove a b)
     (cond (eqb kind 3) (cond (eqb b 0) (ListFirst (a + 1)) Malformed)
-    (cond (endsAt script at) End Malformed))))
+    (cond ends End Malformed)))
+
+-- with too few bits left, malformed
+unfoldable pub itemAt : List ℕ → ℕ → Item
+itemAt script at =
+    cond (ltb (bitsLeft script at) recordBits) Malformed (itemOf (kindAt script at) (aAt script at) (bAt script at) (endsAt script at))
 
 -- the reader moves past a record, or keeps its position with the end or malformed
-unfoldable pub pastItem : Item → ℕ → ℕ
+abbrev pub pastItem : Item → ℕ → ℕ
 pastItem (Add a b) at = at + recordBits
 pastItem (Remove a b) at = at + recordBits
 pastItem (ListFirst k) at = at + recordBits
@@ -54,5 +54,5 @@ pastItem End at = at
 pastItem Malformed at = at
 
 -- what a reader at a position yields, and the position that it is left at
-unfoldable pub stepAt : List ℕ → ℕ → Step
-stepAt script at = record { item = itemAt script at; at = pastItem (itemAt script at) at }
+unfoldable pub readAt : List ℕ → ℕ → Step
+readAt script at = record { item = itemAt script at; at = pastItem (itemAt script at) at }

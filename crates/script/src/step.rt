@@ -5,7 +5,7 @@ ghost use mathlib.Core.Path.{_≡_};
 ghost use Prim.Native.Nat.{_<_, _≤_, _^_};
 ghost use Rattle.script.specs.Limits.{recordBits};
 ghost use Rattle.script.specs.Reading.{readingAt, readingOf};
-ghost use Rattle.script.specs.Record.{bitsLeft, endsAt, itemAt, pastItem, stepAt};
+ghost use Rattle.script.specs.Record.{bitsLeft, endsAt, itemAt, pastItem, readAt};
 
 // The most bytes of a script.
 pub const MAX_BYTES: usize = 65536;
@@ -105,8 +105,8 @@ fn past(item: Item, at: usize) -> usize
 }
 
 // What a reader at position `at` yields, and the position that it is left at.
-pub(crate) fn step_at(script: &[u8], at: usize) -> Step
-    ensures { λ r. ⌜ r ≡ stepAt (now (script .entry)) at ⌝ }
+pub(crate) fn read_at(script: &[u8], at: usize) -> Step
+    ensures { λ r. ⌜ r ≡ readAt (now (script .entry)) at ⌝ }
     ensures numbers { λ r. ⌜ readingOf (r .item) (r .at) ≡ readingAt (now (script .entry)) at ⌝ }
 {
     let item = item_at(script, at);

@@ -2,15 +2,18 @@
 use mathlib.Core.Bool.{Bool, false, true, _||_}
 use mathlib.Core.List.{List}
 use mathlib.Core.Logic.{inl, inr, _≢_}
-use mathlib.Core.Path.{refl, _∙_, _≡_}
-use Prim.Native.Nat.{_*_, _+_, _<_, suc, zero, ℕ, _≤_}
-use native.Mathlib.Decide.{ℕ-discrete}
+use mathlib.Core.Path.{ap, refl, sym, _∙_, _≡_}
+use Prim.Native.Nat.{_*_, _+_, _-_, _/_, _<_, _^_, suc, zero, ℕ, _≤_}
+use native.Mathlib.Decide.{decLt, ℕ-discrete}
 use native.Mathlib.Omega.{arith}
-use borrow.Author.Tests.{lt-ltb}
-use lib.Dec.{ltb}
+use borrow.Author.Tests.{eqb-true, le-ltb, lt-ltb}
+use lib.Dec.{eqb, ltb}
 use lib.ListN.{length, length-replicate}
-use Rattle.arith.proofs.Tests.{test}
+use Rattle.arith.proofs.Sums.{sumTo-ext}
+use Rattle.arith.proofs.Tests.{each-at, test}
+use Rattle.arith.specs.Sums.{bit, packTo, sumTo, tabulate}
 use Rattle.packed.proofs.BitLaws.{bit-bytesOf, bit-with-other, bit-with-same, bit-zeros, length-bytesOf, length-with-bit}
+use Rattle.packed.specs.Bits.{bytesOf}
 use Rattle.state.specs.Marks.{allExact, allStale, markBytes, stale, staleTo, withMark}
 
 pub length-withMark : (marks : List ℕ) (p : ℕ) (on : Bool) → length (withMark marks p on) ≡ length marks
@@ -75,3 +78,32 @@ all-exact n p = bit-zeros (markBytes n) p
 pub all-stale : (n p : ℕ) → p < n → stale (allStale n) p ≡ true
 unfolding stale allStale
 all-stale n p h = bit-bytesOf (λ i. ltb i n) (markBytes n) p (omega arith) ∙ lt-ltb p n h
+
+-- ---- a byte whose first bits are set, and the bytes of n nodes that are all stale
+
+pub some-bits : (count : ℕ) → count < 8 → 255 - 255 / 2 ^ count ≡ packTo (λ j. ltb (7 - j) count) 8
+unfolding sumTo
+some-bits count h = eqb-true _ _ (each-at (λ count. eqb (255 - 255 / 2 ^ count) (packTo (λ j. ltb (7 - j) count) 8)) 8 count refl h)
+
+ones : 255 ≡ packTo (λ j. true) 8
+unfolding sumTo
+ones = refl
+
+pub all-bits : (count : ℕ) → 8 ≤ count → 255 ≡ packTo (λ j. ltb (7 - j) count) 8
+all-bits count h = ones ∙ sumTo-ext _ _ 8 (λ j l. ap (λ b. bit b * 2 ^ j) (sym (lt-ltb (7 - j) count (omega arith))))
+
+abbrev pub staleByte : ℕ → ℕ → ℕ
+staleByte n k = packTo (λ j. ltb (8 * k + (7 - j)) n) 8
+
+pub stale-byte : (n k : ℕ) {x : ℕ} → 8 * k < n → x ≡ packTo (λ j. ltb (7 - j) (n - 8 * k)) 8 → x ≡ staleByte n k
+stale-byte n k h e = e ∙ sumTo-ext _ _ 8 (λ j l. ap (λ b. bit b * 2 ^ j) (same (7 - j)))
+  where
+    same : (i : ℕ) → ltb i (n - 8 * k) ≡ ltb (8 * k + i) n
+    same i = elim (decLt i (n - 8 * k)) [
+      | yes b ↦ lt-ltb i (n - 8 * k) b ∙ sym (lt-ltb (8 * k + i) n (omega arith))
+      | no b ↦ le-ltb i (n - 8 * k) (omega arith) ∙ sym (le-ltb (8 * k + i) n (omega arith))
+    ]
+
+pub stale-bytes : (n : ℕ) {marks : List ℕ} {m : ℕ} → m ≡ markBytes n → marks ≡ tabulate (staleByte n) m → marks ≡ allStale n
+unfolding allStale bytesOf
+stale-bytes n e h = h ∙ ap (tabulate (staleByte n)) e

@@ -10,7 +10,8 @@ use borrow.Author.Tests.{eq-eqb, le-leb, le-ltb, lt-leb, lt-ltb, ne-eqb}
 use lib.ListN.{length}
 use Rattle.arith.proofs.Tests.{test}
 use Rattle.ego.specs.Graph.{Graph}
-use Rattle.packed.specs.Pairs.{maxNodes, Room}
+use Rattle.packed.specs.Pairs.{maxNodes}
+use Rattle.packed.specs.inside.Room.{Room}
 use Rattle.state.specs.Marks.{markBytes}
 use Rattle.state.specs.Outcome.{edgeLengths, stateLengths}
 use Rattle.state.specs.Refusal.{bufferLength, Condition, crowdedAfter, crowdedBefore, edgeAbsent, edgePresent, listLength, nodeCount, nodeNumber, oneNumber, otherCount, refusal, sameNodes, scratchLength, snapshotNodes, tooMany}
@@ -153,7 +154,8 @@ sized-by {n} {edges} e z = sized n edges (sym e ∙ z)
 
 -- the conditions after these decide
 pub sized-append : (n edges : ℕ) (cs : List Condition) → Sized n edges → refusal (edgeLengths n edges ++ cs) ≡ refusal cs
-sized-append n edges cs s = passed-count (bufferLength (edgeBytes n) edges ∷ cs) n (λ e. omega (arith, s .some)) (s .few) ∙ passed-length cs (edgeBytes n) edges (s .edgesFit)
+sized-append n edges cs s =
+    passed-count (bufferLength (edgeBytes n) edges ∷ cs) n (λ e. omega (arith, s .some)) (s .few) ∙ passed-length cs (edgeBytes n) edges (s .edgesFit)
 
 pub sized-room : {n : ℕ} {edges : List ℕ} → Sized n (length edges) → Room n edges
 sized-room s = record { few = s .few; bits = omega (arith, s .edgesFit) }

@@ -3,17 +3,15 @@ use mathlib.Core.Bool.{Bool, false, true}
 use mathlib.Core.List.{List}
 use mathlib.Core.Logic.{inl, inr, _≢_}
 use mathlib.Core.Path.{ap, refl, subst, sym, _∙_, _≡_}
-use Prim.Native.Nat.{_%_, _*_, _-_, _/_, _<_, suc, zero, ℕ, _≤_}
+use Prim.Native.Nat.{_*_, _-_, _/_, _<_, suc, zero, ℕ, _≤_}
 use native.Mathlib.Decide.{decLt, ℕ-discrete}
 use native.Mathlib.Omega.{arith}
 use borrow.Author.Tests.{le-ltb}
 use lib.Dec.{ltb}
-use lib.ListN.{length, List·getD-eq-default}
-use lib.Seq.{set-out}
+use lib.ListN.{length}
 use Rattle.arith.proofs.Tests.{test}
-use Rattle.arith.specs.Digits.{bitOf}
 use Rattle.ego.proofs.Agreement.{Agree}
-use Rattle.packed.proofs.BitLaws.{bit-bytesOf, bit-with-other, bit-with-same, bit-zeros, length-bytesOf, length-with-bit}
+use Rattle.packed.proofs.BitLaws.{bit-bytesOf, bit-past, bit-with-other, bit-with-same, bit-zeros, length-bytesOf, length-with-bit, with-bit-past}
 use Rattle.packed.proofs.EdgeLaws.{edge-self, edge-two, length-with-edge, spare-with-edge, with-self, with-two}
 use Rattle.packed.proofs.PairLaws.{pair-lt}
 use Rattle.packed.specs.Bits.{bitAt, withBit}
@@ -25,16 +23,6 @@ use Rattle.state.specs.Spare.{Alike, SameAt, SameBits, SameSpare, SpareK
 use Rattle.state.specs.State.{graph, size, State}
 
 -- ---- bytes
-
--- a bit past the bytes is not written
-with-bit-past : (x : List ℕ) (i : ℕ) (on : Bool) → length x ≤ i / 8 → withBit x i on ≡ x
-unfolding withBit
-with-bit-past x i on h = set-out x (i / 8) _ h
-
--- and is 0
-pub bit-past : (x : List ℕ) (i : ℕ) → length x ≤ i / 8 → bitAt x i ≡ false
-unfolding bitAt
-bit-past x i h = ap (λ b. bitOf b (7 - i % 8)) (List·getD-eq-default x 0 h) ∙ bit-zeros 0 i
 
 module _ {places : ℕ → Type 0} where
   pub same-refl : (x : List ℕ) → SameAt places x x

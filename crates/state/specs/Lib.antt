@@ -4,5 +4,6 @@ pub mod Marks
 pub mod State
 pub mod Refusal
 pub mod Outcome
-pub mod Honest
+pub mod Lent
 pub mod Spare
+pub mod inside

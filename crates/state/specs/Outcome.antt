@@ -14,12 +14,8 @@ pub record Outcome : Type 0 where
   pub refusal : ℕ
   pub after : State
 
--- the lent buffers as a state, and with the number that is returned as an outcome
-abbrev pub state : List ℕ → List ℕ → List ℕ → State
-state edges figures marks = record { edges = edges; figures = figures; marks = marks }
-
-abbrev pub left : ℕ → List ℕ → List ℕ → List ℕ → Outcome
-left refusal edges figures marks = record { refusal = refusal; after = state edges figures marks }
+abbrev pub left : ℕ → State → Outcome
+left refusal after = record { refusal = refusal; after = after }
 
 -- A call that is accepted leaves `after`; one that is refused leaves the state as it was.
 unfoldable pub outcome : List Condition → State → State → Outcome

@@ -70,7 +70,8 @@ spareSet n edges = anyTo (λ i. leb (pairCount n) i && bitAt edges i) (8 * edgeB
 
 unfoldable pub badSnapshot : List ℕ → Condition
 badSnapshot snapshot =
-    (9, eqb (length snapshot) 0 || (not (eqb (length snapshot) (snapshotBytes (snapshotNodes snapshot))) || spareSet (snapshotNodes snapshot) (snapshotEdges snapshot)))
+    let n = snapshotNodes snapshot in
+    (9, eqb (length snapshot) 0 || (not (eqb (length snapshot) (snapshotBytes n)) || spareSet n (snapshotEdges snapshot)))
 
 -- 10. A sheet's post count differs from the slate's.
 unfoldable pub otherCount : ℕ → List ℕ → Condition

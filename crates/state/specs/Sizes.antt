@@ -10,10 +10,3 @@ edgeBytes n = bytesFor (pairCount n)
 -- the byte n - 1, then the edges
 abbrev pub snapshotBytes : ℕ → ℕ
 snapshotBytes n = 1 + edgeBytes n
-
--- the most, of 256 nodes
-abbrev pub maxEdgeBytes : ℕ
-maxEdgeBytes = 4080
-
-abbrev pub maxSnapshot : ℕ
-maxSnapshot = 1 + maxEdgeBytes

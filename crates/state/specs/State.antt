@@ -13,6 +13,9 @@ pub record State : Type 0 where
   pub figures : List ℕ
   pub marks : List ℕ
 
+abbrev pub state : List ℕ → List ℕ → List ℕ → State
+state edges figures marks = record { edges = edges; figures = figures; marks = marks }
+
 -- n is the count of the figures
 abbrev pub size : State → ℕ
 size s = length (s .figures)

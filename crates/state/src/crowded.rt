@@ -6,7 +6,7 @@ ghost use Prim.Native.Nat.{_≤_};
 ghost use lib.Dec.{ltb};
 ghost use lib.ListN.{length, getD};
 ghost use Rattle.arith.specs.Sums.{anyTo};
-ghost use Rattle.packed.specs.Pairs.{Room};
+ghost use Rattle.packed.specs.inside.Room.{Room};
 ghost use Rattle.packed.specs.Edges.{edge};
 ghost use Rattle.ego.specs.Limits.{limit};
 ghost use Rattle.state.specs.Refusal.{tooMany, everyone};

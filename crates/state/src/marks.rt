@@ -1,7 +1,9 @@
 // The marks of a state's nodes. Nothing else reads or writes their bits.
 ghost use mathlib.Core.Path.{_≡_};
-ghost use Prim.Native.Nat.{_+_, _≤_};
+ghost use Prim.Native.Nat.{_+_, _-_, _≤_};
+ghost use lib.Dec.{ltb};
 ghost use lib.ListN.{length, replicate};
+ghost use Rattle.arith.specs.Sums.{packTo};
 ghost use Rattle.state.specs.Marks.{stale, withMark, markBytes, allStale};
 
 // Whether node p is stale.
@@ -27,13 +29,22 @@ pub fn set_exact(marks: &mut [u8])
     packed::bits::zero(marks);
 }
 
+// The byte whose first bits are set, `count` of them or all.
+fn first_bits(count: usize) -> u8
+    ensures { λ r. ⌜ r ≡ packTo (λ j. ltb (7 - j) count) 8 ⌝ }
+{
+    if 8 <= count {
+        return 255;
+    }
+    !(255u8 >> count)
+}
+
 // Marks n nodes stale; spare bits are 0.
 pub fn set_stale(marks: &mut [u8], n: usize)
     requires { ⌜ length (now marks) ≡ markBytes n ⌝ }
     ensures { λ _. ⌜ now (marks .exit) ≡ allStale n ⌝ }
 {
-    set_exact(marks);
-    for p in 0..n {
-        put(marks, p, true);
+    for k in 0..marks.len() {
+        marks[k] = first_bits(n - 8 * k);
     }
 }

@@ -16,11 +16,11 @@ use Rattle.arith.proofs.Sums.{count-gain}
 use Rattle.arith.proofs.Tests.{and-true, test}
 use Rattle.arith.specs.Sums.{countTo}
 use Rattle.topk.proofs.Good.{isTaken}
-use Rattle.topk.proofs.NextLaws.{best, Free, IsBest}
+use Rattle.topk.proofs.NextLaws.{is-best, Free, IsBest}
 use Rattle.topk.proofs.Sort.{length-keep}
 use Rattle.topk.proofs.TurnLaws.{counts, SameLengths, steps-lengths}
-use Rattle.topk.specs.Entries.{entry, first, last, stops}
-use Rattle.topk.specs.Steps.{at, bestBelow, listed, Next, nothing, Progress, start, step, stepAt, steps, stored, took, worth}
+use Rattle.topk.specs.Entries.{entry, ranksBefore, lastEntry, stops}
+use Rattle.topk.specs.Steps.{at, bestBelow, allSteps, Next, nothing, Progress, atStart, step, stepAt, steps, stored, took, worth}
 
 module _ (T : ℕ → ℕ) (k : ℕ) (F M : List ℕ) where
   abbrev n : ℕ
@@ -30,14 +30,16 @@ module _ (T : ℕ → ℕ) (k : ℕ) (F M : List ℕ) where
   abbrev Filled : ℕ → Progress → Type 0
   Filled t s = (length (s .kept) ≡ k) ⊎ ((length (s .kept) ≡ t) × (countTo (isTaken (s .taken)) n ≡ t))
 
-  module _ (t : ℕ) (s : Progress) (same : SameLengths (start F M) s) (room : length (s .kept) ≤ k) (short : t < n) (h : Filled t s) where
+  module _ (t : ℕ) (s : Progress) (same : SameLengths (atStart F M) s) (room : length (s .kept) ≤ k) (short : t < n) (h : Filled t s) where
     -- some node is left, while not each is taken
     no-next : ((q : ℕ) → q < length (s .figures) → Free (s .taken) q → ⊥) → Filled (suc t) s
-    no-next b = ⊎-elim (λ e. inl e) (λ c. absurd (omega (arith, c .1, count-all (isTaken (s .taken)) n (λ q l. rw (ne-eqb (getD (s .taken) q 0) 0 (b q (omega (arith, same .figures)))))))) h
+    no-next b =
+        let all = count-all (isTaken (s .taken)) n (λ q l. rw (ne-eqb (getD (s .taken) q 0) 0 (b q (omega (arith, same .figures))))) in
+        ⊎-elim (λ e. inl e) (λ c. absurd (omega (arith, c .1))) h
 
     stop-full : (p : ℕ) → stops k (stored s p) (s .kept) ≡ true → length (s .kept) ≡ k
     unfolding stops
-    stop-full p e = eqb-true (length (s .kept)) k (and-true (eqb (length (s .kept)) k) (first (last (s .kept)) (stored s p)) e .0)
+    stop-full p e = eqb-true (length (s .kept)) k (and-true (eqb (length (s .kept)) k) (ranksBefore (lastEntry (s .kept)) (stored s p)) e .0)
 
     more-taken : (p : ℕ) → p < n → Free (s .taken) p → countTo (isTaken (set (s .taken) p 1)) n ≡ countTo (isTaken (s .taken)) n + 1
     more-taken p l f =
@@ -61,13 +63,14 @@ module _ (T : ℕ → ℕ) (k : ℕ) (F M : List ℕ) where
       | inr e ↦ rw e (took-filled p (omega (arith, same .figures, b .0)) (b .1))
     ]
 
-  steps-filled : (t : ℕ) → t ≤ n → Filled t (steps T k t (start F M))
+  steps-filled : (t : ℕ) → t ≤ n → Filled t (steps T k t (atStart F M))
   unfolding steps step
-  steps-filled zero l = inr (omega arith, count-none (isTaken (start F M .taken)) n (λ q m. rw (getD-replicate {A = ℕ} n q 0 0 m)))
+  steps-filled zero l = inr (omega arith, count-none (isTaken (atStart F M .taken)) n (λ q m. rw (getD-replicate {A = ℕ} n q 0 0 m)))
   steps-filled (suc t) l =
-      let s = steps T k t (start F M) in
-      step-filled t s (steps-lengths T k t (start F M)) (counts T k F M t .0) l (steps-filled t (omega arith)) (bestBelow s (length (s .figures))) (best s (length (s .figures)))
+      let s = steps T k t (atStart F M) in
+      step-filled t s (steps-lengths T k t (atStart F M)) (counts T k F M t .0) l (steps-filled t (omega arith)) (bestBelow s (length (s .figures)))
+      (is-best s (length (s .figures)))
 
-  pub listed-length : k ≤ length F → length (listed T k F M .kept) ≡ k
-  unfolding listed
-  listed-length l = ⊎-elim (λ e. e) (λ c. omega (arith, c .0, counts T k F M n .0)) (steps-filled n (le-refl n))
+  pub all-steps-length : k ≤ length F → length (allSteps T k F M .kept) ≡ k
+  unfolding allSteps
+  all-steps-length l = ⊎-elim (λ e. e) (λ c. omega (arith, c .0, counts T k F M n .0)) (steps-filled n (le-refl n))

@@ -1,4 +1,5 @@
--- The list where the figures are honest: what holds after each step. T is the score, F the figures and M the marks at entry, S the taken nodes. Assumes nothing.
+-- The list where the figures are honest: what holds after each step. T is the score, F the figures and M the marks at entry, S the taken nodes.
+-- Assumes nothing.
 use mathlib.Core.Bool.{_&&_, Bool, false, not}
 use mathlib.Core.List.{List}
 use mathlib.Core.Logic.{inl, inr, _⊎_, ⊎-elim}
@@ -12,7 +13,7 @@ use lib.Dec.{eqb}
 use lib.ListN.{getD, getD-replicate, length, length-replicate, length-set, replicate, set, take}
 use lib.Seq.{getD-set-other, getD-set-same}
 use Rattle.arith.proofs.Sums.{count-gain, countTo-ext}
-use Rattle.arith.proofs.Tests.{test}
+use Rattle.arith.proofs.Tests.{test, and-false}
 use Rattle.arith.specs.Sums.{bit, countTo}
 use Rattle.state.specs.Marks.{markBytes, stale, withMark}
 use Rattle.arith.proofs.Counts.{count-none}
@@ -20,11 +21,10 @@ use Rattle.state.proofs.MarkLaws.{length-withMark, stale-other, stale-same}
 use Rattle.topk.proofs.NextLaws.{figureOf, Free, Taken}
 use Rattle.topk.proofs.Order.{Ahead, ahead-ahead, ahead-asym, Behind, behind-behind, behind-by, behind-flip}
 use Rattle.topk.proofs.Sort.{All, All-map, All-take, cut, In, in-insert, in-last, in-old, insert-all, insert-or, insert-sorted, length-keep, Out, push, Sorted, Sorted-take}
-use Rattle.arith.proofs.Tests.{and-false}
 use Rattle.topk.proofs.Top.{scored}
 use Rattle.topk.specs.Entries.{Entry, entry, insert, keep, lastOr, stops}
-use Rattle.state.specs.Honest.{Honest}
-use Rattle.topk.specs.Steps.{at, Progress, start, stored, took, worth}
+use Rattle.state.specs.inside.Honest.{Honest}
+use Rattle.topk.specs.Steps.{at, Progress, atStart, stored, took, worth}
 
 -- whether a node is taken; whether it is, and was stale
 abbrev pub isTaken : List ℕ → ℕ → Bool
@@ -53,7 +53,7 @@ pub record Good (T : ℕ → ℕ) (F M : List ℕ) (k : ℕ) (s : Progress) : Ty
 abbrev none-taken : List ℕ → List ℕ
 none-taken F = replicate (length F) 0
 
-pub start-good : (T : ℕ → ℕ) (F M : List ℕ) (k : ℕ) → markBytes (length F) ≤ length M → Good T F M k (start F M)
+pub start-good : (T : ℕ → ℕ) (F M : List ℕ) (k : ℕ) → markBytes (length F) ≤ length M → Good T F M k (atStart F M)
 start-good T F M k l =
     let z : (q : ℕ) → q < length F → getD (none-taken F) q 0 ≡ 0 = λ q m. getD-replicate (length F) q 0 0 m in
     let f : (q : ℕ) → q < length F → isTaken (none-taken F) q ≡ false = λ q m. rw (z q m) in
@@ -160,7 +160,8 @@ module _ (T : ℕ → ℕ) (F M : List ℕ) (k : ℕ) (s : Progress) (hon : Hone
       let P : Entry → Type 0 = λ x. (x .node < n) × Taken S′ (x .node) × (x ≡ scored T (x .node)) in
       All-take P k (insert e xs)
       (insert-all P e xs (lp, taken-here, refl)
-      (All-map {P = λ x. (x .node < n) × Taken S (x .node) × (x ≡ scored T (x .node))} {Q = P} (λ x r. (r .0, still-taken (x .node) (r .1), r .2)) xs (g .real)))
+      (All-map {P = λ x. (x .node < n) × Taken S (x .node) × (x ≡ scored T (x .node))} {Q = P} (λ x r. (r .0, still-taken (x .node) (r .1), r .2)) xs
+      (g .real)))
 
   ys-cover : (q : ℕ) → q < n → Taken S′ q → In (scored T q) ys ⊎ Out k (scored T q) ys
   unfolding ys
@@ -211,7 +212,9 @@ module _ (T : ℕ → ℕ) (F M : List ℕ) (k : ℕ) (s : Progress) (hon : Hone
 
   recomputed-is : s .recomputed + bit (stale (s .marks) p) ≡ countTo (isRecomputed M S′) n
   recomputed-is = elim (test (stale M p)) [
-    | inl t ↦ rw (g .fresh p lp free .1, t) (omega (arith, g .count, count-gain (isRecomputed M S) (isRecomputed M S′) n p lp (rw (t, free)) (rw (t, here)) (λ q d. rw (other q d))))
+    | inl t ↦
+        let gain = count-gain (isRecomputed M S) (isRecomputed M S′) n p lp (rw (t, free)) (rw (t, here)) (λ q d. rw (other q d)) in
+        rw (g .fresh p lp free .1, t) (omega (arith, g .count))
     | inr t ↦ rw (g .fresh p lp free .1, t) (omega (
       arith,
       g .count,
@@ -228,13 +231,17 @@ module _ (T : ℕ → ℕ) (F M : List ℕ) (k : ℕ) (s : Progress) (hon : Hone
     lenF = length-set (s .figures) p v ∙ g .lenF;
     lenM = omega (arith, g .lenM, length-withMark (s .marks) p false);
     lenS = length-set S p 1 ∙ g .lenS;
-    fresh = λ q l f. let o = free-old q f in (getD-set-other (s .figures) p q v 0 (o .0) ∙ g .fresh q l (o .1) .0, stale-other (s .marks) p q false (o .0) ∙ g .fresh q l (o .1) .1);
+    fresh = λ q l f. let o = free-old q f in (
+      getD-set-other (s .figures) p q v 0 (o .0) ∙ g .fresh q l (o .1) .0,
+      stale-other (s .marks) p q false (o .0) ∙ g .fresh q l (o .1) .1,
+    );
     done = λ q l t. ⊎-elim (λ c. subst (λ (m : ℕ). (getD (set (s .figures) p v) m 0 ≡ T m) × (stale (withMark (s .marks) p false) m ≡ false)) (sym c)
         (getD-set-same (s .figures) p v 0 (omega (arith, g .lenF)) ∙ v-is, stale-same (s .marks) p false (omega (arith, g .lenM))))
         (λ o. (getD-set-other (s .figures) p q v 0 (o .0) ∙ g .done q l (o .1) .0, stale-other (s .marks) p q false (o .0) ∙ g .done q l (o .1) .1))
         (taken-cases q t);
     order = λ q r lq lr t f. let o = free-old r f in
-        ⊎-elim (λ c. subst (λ (m : ℕ). Ahead (figureOf F m) (figureOf F r)) (sym c) (ahead r lr (o .0) (o .1))) (λ u. g .order q r lq lr (u .1) (o .1)) (taken-cases q t);
+        ⊎-elim (λ c. subst (λ (m : ℕ). Ahead (figureOf F m) (figureOf F r)) (sym c) (ahead r lr (o .0) (o .1)))
+        (λ u. g .order q r lq lr (u .1) (o .1)) (taken-cases q t);
     sorted = subst Sorted (sym kept-is) ys-sorted;
     real = subst (All (λ x. (x .node < n) × Taken S′ (x .node) × (x ≡ scored T (x .node)))) (sym kept-is) ys-real;
     cover = λ q l t. subst (λ (z : List Entry). In (scored T q) z ⊎ Out k (scored T q) z) (sym kept-is) (ys-cover q l t);

@@ -1,21 +1,26 @@
 -- Buffers that hold a list: the list is what lies in them, and one turn more. Assumes nothing.
 use mathlib.Core.Bool.{Bool, false, true}
-use mathlib.Core.List.{_++_, [], List}
+use mathlib.Core.List.{_++_, List}
 use mathlib.Core.Path.{ap, refl, subst, sym, _∙_, _≡_}
 use Prim.Native.Nat.{_*_, _+_, _-_, _<_, ℕ, _≤_}
 use native.Mathlib.Omega.{arith}
 use lib.ListN.{drop, getD, length, set}
 use lib.Seq.{drop-append-add, drop-drop}
 use Rattle.arith.specs.Lists.{count}
-use Rattle.arith.specs.Sums.{bit}
-use Rattle.state.specs.Marks.{stale, withMark}
+use Rattle.state.specs.Marks.{withMark}
 use Rattle.topk.proofs.LayoutLaws.{entries-flat, entriesOf-flat, length-entriesOf, length-flat}
 use Rattle.topk.proofs.NextLaws.{best-looking, next-of-node, next-of-none}
 use Rattle.topk.proofs.TurnLaws.{grows, step-none, step-stop, step-take}
-use Rattle.topk.specs.Entries.{Entry, entry, flat, keep, stops}
-use Rattle.topk.specs.Layout.{entriesOf, Kept, over}
-use Rattle.topk.specs.Steps.{bestBelow, Next, Progress, step, took, worth}
-use Rattle.topk.specs.Turns.{Holds, looking, next, nextOf, progressOf, stopped}
+use Rattle.topk.specs.Entries.{entriesOf, Entry, entry, flat, keep, over, stops}
+use Rattle.topk.specs.inside.Layout.{Kept}
+use Rattle.topk.specs.Steps.{Next, Progress, step, took, worth}
+use Rattle.topk.specs.inside.Turns.{Holds, progressOf, truthOf, Turned, TurnFits, worthOf}
+use Rattle.topk.specs.inside.Next.{looking, Names, next, nextOf, stopped}
+use Rattle.topk.specs.declared.turns.Turn.{Turn}
+use Rattle.topk.specs.declared.worth.Worth.{Worth}
+
+abbrev turn : Bool → ℕ → ℕ → Turn
+turn stopped kept recomputed = record { stopped = stopped; kept = kept; recomputed = recomputed }
 
 -- what lies in the buffers is the list
 pub progress-is : (s : Progress) (F M S E₀ E : List ℕ) (m r : ℕ) → Holds s F M S E₀ E m r → progressOf F M S E m r ≡ s
@@ -24,7 +29,8 @@ progress-is s F M S E₀ E m r h =
     λ i. record { figures = h .figuresAre i; marks = h .marksAre i; taken = h .takenAre i; kept = k i; recomputed = h .recomputedIs i }
 
 -- buffers that nothing was written to
-pub holds-still : (s : Progress) (E : List ℕ) (m : ℕ) → s .kept ≡ entriesOf m E → 2 * m ≤ length E → Holds s (s .figures) (s .marks) (s .taken) E E m (s .recomputed)
+pub holds-still : (s : Progress) (E : List ℕ) (m : ℕ) → s .kept ≡ entriesOf m E → 2 * m ≤ length E
+    → Holds s (s .figures) (s .marks) (s .taken) E E m (s .recomputed)
 holds-still s E m e h = record {
   figuresAre = refl;
   marksAre = refl;
@@ -62,29 +68,43 @@ holds-next T k s F M S E₀ E m r F′ M′ S′ E′ m′ r′ l h h′ =
     }
 
 -- ---- one turn, by what the code finds: what is next, and whether it stops the list
-module _ (T : ℕ → ℕ) (k : ℕ) (F M S E : List ℕ) (m r p : ℕ) (e : nextOf (length F) p ≡ bestBelow (looking F S) (length F)) where
+module _ {edges F M S E : List ℕ} {k m r p : ℕ} (fits : TurnFits (length F) edges M S E k m r) (found : Names (looking F S) (next (looking F S)) p) where
+  abbrev T : ℕ → ℕ
+  T = truthOf edges F
+
   abbrev s : Progress
   s = progressOf F M S E m r
 
   is-next : {x : Next} → nextOf (length F) p ≡ x → next s ≡ x
   unfolding next
-  is-next q = sym (best-looking s (length F)) ∙ sym e ∙ q
+  is-next q = sym (best-looking s (length F)) ∙ sym (found .named) ∙ q
 
-  pub turn-none : length F ≤ p → 2 * m ≤ length E → (true ≡ stopped k s) × Holds (step T k s) F M S E E m r
-  turn-none h l = let q = step-none T k s (is-next (next-of-none h)) in (q .0, rw (q .1) (holds-still s E m refl l))
+  -- it is done
+  done : (true ≡ stopped k s) × (step T k s ≡ s) → Turned T k s (turn true m r) F M S E E
+  done q = record { stops = q .0; holds = rw (q .1) (holds-still s E m refl (omega arith)) }
 
-  module _ (h : p < length F) where
-    pub turn-stop : {b : Bool} → b ≡ stops k (entry p (getD F p 0)) (entriesOf m E) → b ≡ true → 2 * m ≤ length E → (true ≡ stopped k s) × Holds (step T k s) F M S E E m r
-    turn-stop u t l = let q = step-stop T k s p (is-next (next-of-node h)) (sym u ∙ t) in (q .0, rw (q .1) (holds-still s E m refl l))
+  pub turn-none : length F ≤ p → Turned T k s (turn true m r) F M S E E
+  turn-none h = done (step-none T k s (is-next (next-of-none h)))
 
-    pub turn-take : {F′ M′ S′ E′ : List ℕ} {m′ r′ : ℕ} {b : Bool} → b ≡ stops k (entry p (getD F p 0)) (entriesOf m E) → b ≡ false
-        → Holds (took T k s p) F′ M′ S′ E E′ m′ r′ → (false ≡ stopped k s) × Holds (step T k s) F′ M′ S′ E E′ m′ r′
-    turn-take u t g = let q = step-take T k s p (is-next (next-of-node h)) (sym u ∙ t) in (q .0, rw (q .1) g)
+  module _ {stop : Bool} (h : p < length F) (u : stop ≡ stops k (entry p (getD F p 0)) (entriesOf m E)) where
+    pub turn-stop : stop ≡ true → Turned T k s (turn true m r) F M S E E
+    turn-stop t = done (step-stop T k s p (is-next (next-of-node h)) (sym u ∙ t))
 
--- a node taken: its figure stored, its mark put, its entry kept
-pub took-holds : (T : ℕ → ℕ) (k : ℕ) (F M S E : List ℕ) (m r p : ℕ) {f : ℕ} {M′ E′ : List ℕ} {m′ r′ : ℕ} → f ≡ worth T (progressOf F M [] [] 0 0) p → M′ ≡ withMark M p false
-    → Kept (keep k (entry p f) (entriesOf m E)) E E′ m′ → r′ ≡ r + bit (stale M p) → Holds (took T k (progressOf F M S E m r) p) (set F p f) M′ (set S p 1) E E′ m′ r′
-unfolding took worth
-took-holds T k F M S E m r p {f} {M′} {E′} {m′} {r′} e marks kept count =
-    let g = subst (λ (x : ℕ). Kept (keep k (entry p x) (entriesOf m E)) E E′ m′) e kept in
-    record { figuresAre = ap (set F p) e; marksAre = marks; takenAre = refl; entriesAre = g .entries; keptIs = g .count; recomputedIs = count }
+    -- a node is taken: its figure stored, its mark put, its entry kept
+    pub turn-take : stop ≡ false → {w : Worth} → w ≡ worthOf edges F M p r → {M′ E′ : List ℕ} {m′ : ℕ} → M′ ≡ withMark M p false
+        → Kept (keep k (entry p (w .figure)) (entriesOf m E)) E E′ m′ → Turned T k s (turn false m′ (w .recomputed)) (set F p (w .figure)) M′ (set S p 1) E E′
+    unfolding took worth
+    turn-take t {w} e {M′} {E′} {m′} marks kept =
+        let q = step-take T k s p (is-next (next-of-node h)) (sym u ∙ t) in
+        let g = subst (λ (x : Worth). Kept (keep k (entry p (x .figure)) (entriesOf m E)) E E′ m′) e kept in
+        record {
+          stops = q .0;
+          holds = rw (q .1) (record {
+            figuresAre = ap (λ (x : Worth). set F p (x .figure)) e;
+            marksAre = marks;
+            takenAre = refl;
+            entriesAre = g .entries;
+            keptIs = g .count;
+            recomputedIs = ap (λ (x : Worth). x .recomputed) e;
+          });
+        }

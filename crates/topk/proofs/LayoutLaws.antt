@@ -10,8 +10,7 @@ use lib.ListN.{drop, getD, length, take}
 use lib.Seq.{getD-drop}
 use Rattle.arith.proofs.Tests.{eqb-same}
 use Rattle.arith.specs.Rank.{before}
-use Rattle.topk.specs.Entries.{Entry, entry, first, flat, lastOr, stops}
-use Rattle.topk.specs.Layout.{entriesOf}
+use Rattle.topk.specs.Entries.{Entry, entry, ranksBefore, flat, lastOr, stops, entriesOf}
 
 -- reading entries back
 pub length-entriesOf : (m : ℕ) (E : List ℕ) → length (entriesOf m E) ≡ m
@@ -75,7 +74,7 @@ last-is d (x ∷ y ∷ ys) =
 -- `stops`, of entries in a buffer
 pub stops-full : (m : ℕ) (E : List ℕ) (e : Entry) → 0 < m
     → stops m e (entriesOf m E) ≡ before (getD E (2 * (m - 1) + 1) 0) (getD E (2 * (m - 1)) 0) (e .figure) (e .node)
-unfolding stops first
+unfolding stops ranksBefore
 stops-full m E e h =
     let l : m - 1 < m = omega arith in
     rw (← last-is (entry 0 0) (entriesOf m E), length-entriesOf m E, eqb-same m, getD-entriesOf m (m - 1) E l)

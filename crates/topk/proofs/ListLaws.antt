@@ -1,74 +1,108 @@
--- The answers of the list call: where it is refused, what it knows where it is not, and what it leaves then. Assumes nothing.
-use mathlib.Core.List.{_++_, [], List, _∷_}
-use mathlib.Core.Logic.{inl, inr}
-use mathlib.Core.Path.{refl, sym, _∙_, _≡_}
-use Prim.Native.Nat.{_<_, ℕ, _≤_}
-use native.Mathlib.Decide.{decLt, ℕ-discrete}
+-- The list call: what it knows where no condition applies, and what it leaves where it is refused and where it is not. Assumes nothing.
+use mathlib.Core.List.{_++_, [], List}
+use mathlib.Core.Path.{ap, refl, sym, _∙_, _≡_}
+use Prim.Native.Nat.{_*_, _<_, ℕ, _≤_}
+use native.Mathlib.Decide.{ℕ-discrete}
 use native.Mathlib.Omega.{arith}
-use borrow.Author.Tests.{ne-eqb}
+use borrow.Author.Tests.{eq-eqb, eqb-false, ltb-false, ne-eqb}
+use lib.Dec.{eqb, ltb}
 use lib.ListN.{drop, length, replicate}
-use Rattle.arith.proofs.Tests.{test}
-use Rattle.packed.specs.Edges.{edge}
+use Rattle.arith.proofs.Tests.{or-false-both}
+use Rattle.calls.proofs.AcceptLaws.{lengths-fit, lengths-rest, passes}
+use Rattle.ego.specs.Graph.{degree, Graph}
+use Rattle.ego.specs.Limits.{limit}
 use Rattle.state.proofs.LimitLaws.{few-each}
-use Rattle.state.proofs.RefusalLaws.{append-refused, Fitted, fitted-append, fitted-by, passed-listed, passed-scratch, refused-all-listed, refused-before, refused-none-listed, refused-scratch, sized-room}
-use Rattle.state.specs.Outcome.{lengths, state, stateLengths}
-use Rattle.state.specs.Refusal.{Condition, crowdedBefore, everyone, listLength, refusal, scratchLength, tooMany}
-use Rattle.topk.specs.List.{accepted, listCall, listing, wanted}
-use Rattle.topk.specs.Turns.{listOf, Scorable, Written}
+use Rattle.state.proofs.RefusalLaws.{sized-room}
+use Rattle.state.specs.Outcome.{lengths, stateLengths}
+use Rattle.state.specs.State.{graph, size, state, State}
+use Rattle.state.specs.Refusal.{crowdedBefore, everyone, listLength, refusal, scratchLength}
+use Rattle.topk.specs.Entries.{over}
+use Rattle.topk.specs.List.{acceptedList, listCall, listConditions, Listed, listing, listOf, wanted}
+use Rattle.topk.specs.inside.Turns.{Leaves, ListFits}
 
-module _ (edges F M E C : List ℕ) where
+-- no condition of a list of k entries applies
+pub record ListPassed (n : ℕ) (g : Graph) (k scratch : ℕ) : Type 0 where
+  pub scratchFits : n ≤ scratch
+  pub some : 0 < k
+  pub within : k ≤ n
+  pub few : (p : ℕ) → p < n → degree g n p ≤ limit
+
+pub conditions-pass : (n : ℕ) (g : Graph) (k scratch : ℕ) → refusal (listConditions n g k scratch) ≡ 0 → ListPassed n g k scratch
+unfolding scratchLength listLength crowdedBefore
+conditions-pass n g k scratch e =
+    let a = passes (scratchLength n scratch) _ (λ z. omega arith) e in
+    let b = passes (listLength n k) _ (λ z. omega arith) (a .1) in
+    let c = passes (crowdedBefore g n everyone) [] (λ z. omega arith) (b .1) in
+    let d = or-false-both (eqb k 0) (ltb n k) (b .0) in
+    let some = eqb-false k 0 (d .0) in
+    record { scratchFits = ltb-false scratch n (a .0); some = omega arith; within = ltb-false n k (d .1); few = few-each g n (c .0) }
+
+-- the state that a list of k entries leaves
+abbrev pub ranOf : State → ℕ → State
+ranOf s k = state (s .edges) (listOf s k .figures) (listOf s k .marks)
+
+module _ (s : State) (C : List ℕ) where
   abbrev n : ℕ
-  n = length F
+  n = size s
 
-  abbrev crowded : List Condition
-  crowded = crowdedBefore (edge edges) n everyone ∷ []
+  -- the refusal of a list of k entries, and what an accepted one leaves
+  abbrev pub refusalOf : ℕ → ℕ
+  refusalOf k = refusal (lengths s ++ listConditions n (graph s) k (length C))
 
-  abbrev sizes : List Condition
-  sizes = listLength n (wanted E) ∷ crowded
+  abbrev pub acceptedOf : ℕ → List ℕ → Listed ℕ
+  acceptedOf k E = listing 0 (listOf s k .recomputed) (ranOf s k) (over (listOf s k .kept) E) (replicate n 0 ++ drop n C)
 
-  abbrev conditions : List Condition
-  conditions = scratchLength n (length C) ∷ sizes
+  pub call-refused : (E : List ℕ) (k : ℕ) → wanted E ≡ k → (refusalOf k ≡ 0 → ⊥) → listCall s E C ≡ listing (refusalOf k) 0 s E C
+  unfolding listCall
+  call-refused E k e d =
+      let f : refusalOf (wanted E) ≡ 0 → ⊥ = λ z. d (ap refusalOf (sym e) ∙ z) in
+      rw (ne-eqb (refusalOf (wanted E)) 0 f) (ap (λ (m : ℕ). listing (refusalOf m) 0 s E C) e)
 
-  -- the refusal, as the code computes it
-  abbrev pub refusalOf : ℕ
-  refusalOf = refusal (stateLengths n (length edges) (length M) ++ conditions)
+  pub call-taken : (E : List ℕ) (k : ℕ) → wanted E ≡ k → refusalOf k ≡ 0 → listCall s E C ≡ acceptedOf k E
+  unfolding listCall acceptedList
+  call-taken E k e z =
+      let f : refusalOf (wanted E) ≡ 0 = ap refusalOf e ∙ z in
+      rw (eq-eqb (refusalOf (wanted E)) 0 f) (ap (λ (m : ℕ). acceptedOf m E) e)
 
-  pub list-refused : (r : ℕ) → r ≡ refusalOf → (r ≡ 0 → ⊥) → listing r 0 (state edges F M) E C ≡ listCall (state edges F M) E C
-  unfolding listCall lengths
-  list-refused r e d = rw (← e, ne-eqb r 0 d)
-
-  -- what the conditions leave
-  pub record Passed : Type 0 where
-    pub fitted : Fitted n (length edges) (length M)
-    pub scratchFits : n ≤ length C
-    pub some : 0 < wanted E
-    pub within : wanted E ≤ n
-    pub scorable : Scorable n edges
-
-  fitted-passed : Fitted n (length edges) (length M) → refusal conditions ≡ 0 → Passed
-  fitted-passed f e = elim (decLt (length C) n) [
-    | yes h ↦ absurd (omega (arith, refused-scratch sizes n (length C) h))
-    | no h ↦ elim (ℕ-discrete (wanted E) 0) [
-      | yes z ↦ absurd (omega (arith, passed-scratch sizes n (length C) (omega arith), refused-none-listed crowded n (wanted E) z))
-      | no z ↦ elim (decLt n (wanted E)) [
-        | yes m ↦ absurd (omega (arith, passed-scratch sizes n (length C) (omega arith), refused-all-listed crowded n (wanted E) m))
-        | no m ↦ elim (test (tooMany (edge edges) n everyone)) [
-          | inl t ↦ absurd (omega (arith, passed-scratch sizes n (length C) (omega arith), passed-listed crowded n (wanted E) z (omega arith), refused-before [] (edge edges) n everyone t))
-          | inr t ↦ record { fitted = f; scratchFits = omega arith; some = omega arith; within = omega arith; scorable = record { room = sized-room (f .sizes); few = few-each (edge edges) n t } }
-        ]
-      ]
-    ]
+  pub call-refusal : (E : List ℕ) → listCall s E C .refusal ≡ refusalOf (wanted E)
+  unfolding listCall acceptedList
+  call-refusal E = elim (ℕ-discrete (refusalOf (wanted E)) 0) [
+    | yes z ↦ rw (eq-eqb (refusalOf (wanted E)) 0 z) (sym z)
+    | no d ↦ rw (ne-eqb (refusalOf (wanted E)) 0 d)
   ]
 
-  pub list-passed : {r : ℕ} → r ≡ refusalOf → r ≡ 0 → Passed
-  list-passed e z = elim (ℕ-discrete (refusal (stateLengths n (length edges) (length M))) 0) [
-    | yes q ↦ let f = fitted-by refl q in fitted-passed f (sym (fitted-append n (length edges) (length M) conditions f) ∙ sym e ∙ z)
-    | no d ↦ absurd (d (sym (append-refused (stateLengths n (length edges) (length M)) conditions refl d) ∙ sym e ∙ z))
-  ]
+  pub call-passed : (k : ℕ) → refusalOf k ≡ 0 → ListPassed n (graph s) k (length C)
+  call-passed k z = conditions-pass n (graph s) k (length C) (lengths-rest s _ z)
 
-  pub list-accepted : {r : ℕ} (F′ M′ E′ C′ : List ℕ) (count : ℕ) → r ≡ refusalOf → r ≡ 0 → Written (listOf edges (wanted E) F M) F′ M′ E E′ count → C′ ≡ replicate n 0
-      → listing 0 count (state edges F′ M′) E′ (C′ ++ drop n C) ≡ listCall (state edges F M) E C
-  unfolding listCall lengths accepted
-  list-accepted F′ M′ E′ C′ count e z h q =
-      let u : refusalOf ≡ 0 = sym e ∙ z in
-      rw (u, h .figuresAre, h .marksAre, h .entriesAre, h .recomputedIs, q)
+  -- the same by the refusal as the code works it out
+  abbrev pub codedRefusal : List ℕ → ℕ
+  codedRefusal E = refusal (stateLengths n (length (s .edges)) (length (s .marks)) ++ listConditions n (graph s) (wanted E) (length C))
+
+  module _ (E : List ℕ) {r : ℕ} (e : r ≡ codedRefusal E) where
+    is-refusal : r ≡ refusalOf (wanted E)
+    unfolding lengths
+    is-refusal = e
+
+    pub list-refused : (r ≡ 0 → ⊥) → listing r 0 s E C ≡ listCall s E C
+    list-refused d = ap (λ (m : ℕ). listing m 0 s E C) is-refusal ∙ sym (call-refused E (wanted E) refl (λ z. d (is-refusal ∙ z)))
+
+    module _ (z : r ≡ 0) where
+      taken : refusalOf (wanted E) ≡ 0
+      taken = sym is-refusal ∙ z
+
+      pub list-fits : (n ≤ length C) × ListFits n (s .edges) (s .marks) E (wanted E)
+      list-fits =
+          let p = call-passed (wanted E) taken in
+          let f = lengths-fit s _ taken in
+          let half : 2 * wanted E ≤ length E = omega arith in (
+            p .scratchFits,
+            record {
+              workable = record { scorable = record { room = sized-room (f .sizes); few = p .few }; marksFit = omega (arith, f .marksFit) };
+              entriesFit = half;
+              some = p .some;
+            },
+          )
+
+      pub list-accepted : {F M E′ C′ : List ℕ} {count : ℕ} → Leaves (listOf s (wanted E)) F M E E′ count → C′ ≡ replicate n 0
+          → listing 0 count (state (s .edges) F M) E′ (C′ ++ drop n C) ≡ listCall s E C
+      list-accepted h q = rw (h .figuresAre, h .marksAre, h .entriesAre, h .recomputedIs, q) (sym (call-taken E (wanted E) refl taken))

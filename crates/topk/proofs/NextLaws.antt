@@ -13,9 +13,9 @@ use lib.ListN.{getD, length}
 use Rattle.arith.proofs.Tests.{test}
 use Rattle.arith.specs.Rank.{before}
 use Rattle.topk.proofs.Order.{ahead-asym, ahead-behind, Behind, behind-self}
-use Rattle.topk.specs.Entries.{Entry, entry, first}
+use Rattle.topk.specs.Entries.{Entry, entry, ranksBefore}
 use Rattle.topk.specs.Steps.{at, bestBelow, better, Next, nothing, Progress, stored}
-use Rattle.topk.specs.Turns.{looking, next, nextOf}
+use Rattle.topk.specs.inside.Next.{looking, next, nextOf}
 
 -- node q with its figure in F
 abbrev pub figureOf : List ℕ → ℕ → Entry
@@ -40,8 +40,12 @@ module _ (s : Progress) (i : ℕ) where
   better-free : (x : Next) → IsBest s i x → Free (s .taken) i → IsBest s (suc i) (better s x i)
   unfolding better
   better-free nothing h z =
-      rw (eq-eqb _ _ z) (omega arith, z, one-more (λ q. Free (s .taken) q → Behind (stored s q) (stored s i)) (λ q l f. absurd (h q l f)) (λ f. behind-self (stored s i)))
-  better-free (at b) h z = elim (test (first (stored s i) (stored s b))) [
+      rw (eq-eqb _ _ z) (
+        omega arith,
+        z,
+        one-more (λ q. Free (s .taken) q → Behind (stored s q) (stored s i)) (λ q l f. absurd (h q l f)) (λ f. behind-self (stored s i)),
+      )
+  better-free (at b) h z = elim (test (ranksBefore (stored s i) (stored s b))) [
     | inl t ↦ rw (eq-eqb _ _ z, t) (
       omega arith,
       z,
@@ -57,18 +61,18 @@ module _ (s : Progress) (i : ℕ) where
   better-taken (at b) h z =
       rw (ne-eqb _ _ z) (omega (arith, h .0), h .1, one-more (λ q. Free (s .taken) q → Behind (stored s q) (stored s b)) (h .2) (λ f. absurd (z f)))
 
-pub best : (s : Progress) (i : ℕ) → IsBest s i (bestBelow s i)
+pub is-best : (s : Progress) (i : ℕ) → IsBest s i (bestBelow s i)
 unfolding bestBelow
-best s zero = λ q l f. absurd (omega arith)
-best s (suc i) = elim (ℕ-discrete (getD (s .taken) i 0) 0) [
-  | yes z ↦ better-free s i (bestBelow s i) (best s i) z
-  | no z ↦ better-taken s i (bestBelow s i) (best s i) z
+is-best s zero = λ q l f. absurd (omega arith)
+is-best s (suc i) = elim (ℕ-discrete (getD (s .taken) i 0) 0) [
+  | yes z ↦ better-free s i (bestBelow s i) (is-best s i) z
+  | no z ↦ better-taken s i (bestBelow s i) (is-best s i) z
 ]
 
 -- so of all nodes
 pub next-best : (s : Progress) → IsBest s (length (s .figures)) (next s)
 unfolding next
-next-best s = best s (length (s .figures))
+next-best s = is-best s (length (s .figures))
 
 -- ---- what the code answers: a number below n, or n
 
@@ -109,11 +113,11 @@ module _ (F S : List ℕ) (n best i : ℕ) where
   better-begins h l m = rw (next-of-none m, eq-eqb _ _ h) (next-of-node l)
 
   pub better-moves : Free S i → i < n → best < n → before (getD F i 0) i (getD F best 0) best ≡ true → nextOf n i ≡ better (looking F S) (nextOf n best) i
-  unfolding better first
+  unfolding better ranksBefore
   better-moves h l m t = rw (next-of-node m, eq-eqb _ _ h, t) (next-of-node l)
 
   pub better-stays : Free S i → best < n → before (getD F i 0) i (getD F best 0) best ≡ false → nextOf n best ≡ better (looking F S) (nextOf n best) i
-  unfolding better first
+  unfolding better ranksBefore
   better-stays h m t = rw (next-of-node m, eq-eqb _ _ h, t)
 
 -- one turn of the loop, and its start

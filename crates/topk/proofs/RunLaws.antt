@@ -1,5 +1,5 @@
 -- The turns of the list, one after the other, from no node taken. Assumes nothing.
-use mathlib.Core.Bool.{Bool, true}
+use mathlib.Core.Bool.{true}
 use mathlib.Core.List.{List}
 use mathlib.Core.Path.{ap, refl, subst, sym, _∙_, _≡_}
 use Prim.Native.Nat.{_+_, ℕ, _≤_}
@@ -7,46 +7,53 @@ use native.Mathlib.Nat.{le-antisymm}
 use native.Mathlib.Numerals.{add-one}
 use lib.ListN.{length, replicate}
 use Rattle.ego.specs.Score.{score}
-use Rattle.packed.specs.Edges.{edge}
+use Rattle.state.specs.State.{graph, size, State}
 use Rattle.topk.proofs.HoldsLaws.{holds-next, progress-is}
 use Rattle.topk.proofs.TurnLaws.{counts, steps-still, still}
-use Rattle.topk.specs.Steps.{listed, Progress, start, step, steps}
-use Rattle.topk.specs.Turns.{Holds, listOf, progressOf, stopped, truthOf, Written}
+use Rattle.topk.specs.List.{listOf}
+use Rattle.topk.specs.Steps.{allSteps, atStart, Progress, step, steps}
+use Rattle.topk.specs.inside.Next.{stopped}
+use Rattle.topk.specs.inside.Turns.{Holds, Leaves, progressOf, truthOf, Turned}
+use Rattle.topk.specs.declared.turns.Turn.{Turn}
 
-holds-written : {s : Progress} {F M S E₀ E : List ℕ} {m r : ℕ} → Holds s F M S E₀ E m r → Written s F M E₀ E r × (S ≡ s .taken)
-holds-written h = (record { figuresAre = h .figuresAre; marksAre = h .marksAre; entriesAre = h .entriesAre; recomputedIs = h .recomputedIs }, h .takenAre)
+-- what is left of a list that the buffers hold
+holds-leaves : {s : Progress} {F M S E₀ E : List ℕ} {m r : ℕ} → Holds s F M S E₀ E m r → Leaves s F M E₀ E r × (S ≡ s .taken)
+holds-leaves h = (record { figuresAre = h .figuresAre; marksAre = h .marksAre; entriesAre = h .entriesAre; recomputedIs = h .recomputedIs }, h .takenAre)
 
-module _ (edges : List ℕ) (k : ℕ) (F₀ M₀ E₀ : List ℕ) where
+module _ (s : State) (k : ℕ) where
+  abbrev F₀ : List ℕ
+  F₀ = s .figures
+
   abbrev T : ℕ → ℕ
-  T = truthOf edges F₀
+  T = score (graph s) (size s)
 
-  abbrev after : ℕ → Progress
-  after i = steps T k i (start F₀ M₀)
+  -- the list after i steps
+  abbrev pub afterSteps : ℕ → Progress
+  afterSteps i = steps T k i (atStart F₀ (s .marks))
 
-  pub run-starts : {S : List ℕ} → S ≡ replicate (length F₀) 0 → Holds (after 0) F₀ M₀ S E₀ E₀ 0 0
+  pub run-starts : {S E₀ : List ℕ} → S ≡ replicate (size s) 0 → Holds (afterSteps 0) F₀ (s .marks) S E₀ E₀ 0 0
   unfolding steps
   run-starts e = record { figuresAre = refl; marksAre = refl; takenAre = e; entriesAre = refl; keptIs = refl; recomputedIs = refl }
 
-  pub run-ends : {F M S E : List ℕ} {m r : ℕ} (i : ℕ) → i ≤ length F₀ → length F₀ ≤ i → Holds (after i) F M S E₀ E m r
-      → Written (listOf edges k F₀ M₀) F M E₀ E r × (S ≡ listOf edges k F₀ M₀ .taken)
-  unfolding listed
-  run-ends {F} {M} {S} {E} {m} {r} i l g h = holds-written (subst (λ (n : ℕ). Holds (after n) F M S E₀ E m r) (le-antisymm l g) h)
+  module _ {i : ℕ} (l : i ≤ size s) {F M S E₀ E : List ℕ} {m r : ℕ} (h : Holds (afterSteps i) F M S E₀ E m r) where
+    pub run-ends : size s ≤ i → Leaves (listOf s k) F M E₀ E r × (S ≡ listOf s k .taken)
+    unfolding allSteps
+    run-ends g = holds-leaves (subst (λ (n : ℕ). Holds (afterSteps n) F M S E₀ E m r) (le-antisymm l g) h)
 
-  -- the buffers before and after a turn
-  module _ (i : ℕ) (l : i ≤ length F₀) (F M S E : List ℕ) (m r : ℕ) (n : length F ≡ length F₀) (h : Holds (after i) F M S E₀ E m r) (F′ M′ S′ E′ : List ℕ) (m′ r′ : ℕ)
-      (t : Holds (step (truthOf edges F) k (progressOf F M S E m r)) F′ M′ S′ E E′ m′ r′) where
-    turned : Holds (step T k (after i)) F′ M′ S′ E₀ E′ m′ r′
-    turned =
-        holds-next T k (after i) F M S E₀ E m r F′ M′ S′ E′ m′ r′ (counts T k F₀ M₀ i .0) h
-        (subst (λ (x : ℕ). Holds (step (score (edge edges) x) k (progressOf F M S E m r)) F′ M′ S′ E E′ m′ r′) n t)
+    -- a turn more
+    module _ (n : length F ≡ size s) {F′ M′ S′ E′ : List ℕ} {t : Turn} (u : Turned (truthOf (s .edges) F) k (progressOf F M S E m r) t F′ M′ S′ E E′) where
+      on : Holds (step T k (afterSteps i)) F′ M′ S′ E₀ E′ (t .kept) (t .recomputed)
+      on =
+          holds-next T k (afterSteps i) F M S E₀ E m r F′ M′ S′ E′ (t .kept) (t .recomputed) (counts T k F₀ (s .marks) i .0) h
+          (subst (λ (x : ℕ). Holds (step (score (graph s) x) k (progressOf F M S E m r)) F′ M′ S′ E E′ (t .kept) (t .recomputed)) n (u .holds))
 
-    pub run-goes : Holds (after (i + 1)) F′ M′ S′ E₀ E′ m′ r′
-    unfolding steps
-    run-goes = rw add-one turned
+      pub run-goes : Holds (afterSteps (i + 1)) F′ M′ S′ E₀ E′ (t .kept) (t .recomputed)
+      unfolding steps
+      run-goes = rw add-one on
 
-    pub run-stops : {b : Bool} → b ≡ stopped k (progressOf F M S E m r) → b ≡ true → Written (listOf edges k F₀ M₀) F′ M′ E₀ E′ r′ × (S′ ≡ listOf edges k F₀ M₀ .taken)
-    unfolding listed
-    run-stops u e =
-        let d : stopped k (after i) ≡ true = ap (stopped k) (sym (progress-is (after i) F M S E₀ E m r h)) ∙ sym u ∙ e in
-        let q : step T k (after i) ≡ after (length F₀) = still T k (after i) d ∙ sym (steps-still T k (start F₀ M₀) i (length F₀) l d) in
-        holds-written (subst (λ (s : Progress). Holds s F′ M′ S′ E₀ E′ m′ r′) q turned)
+      pub run-stops : t .stopped ≡ true → Leaves (listOf s k) F′ M′ E₀ E′ (t .recomputed) × (S′ ≡ listOf s k .taken)
+      unfolding allSteps
+      run-stops e =
+          let d : stopped k (afterSteps i) ≡ true = ap (stopped k) (sym (progress-is (afterSteps i) F M S E₀ E m r h)) ∙ sym (u .stops) ∙ e in
+          let q : step T k (afterSteps i) ≡ afterSteps (size s) = still T k (afterSteps i) d ∙ sym (steps-still T k (atStart F₀ (s .marks)) i (size s) l d) in
+          holds-leaves (subst (λ (x : Progress). Holds x F′ M′ S′ E₀ E′ (t .kept) (t .recomputed)) q on)

@@ -9,7 +9,7 @@ use native.Mathlib.Omega.{arith}
 use lib.ListN.{length, length-take, take}
 use Rattle.arith.proofs.Tests.{test}
 use Rattle.topk.proofs.Order.{Ahead, ahead-ahead, ahead-asym, Behind, behind-ahead, behind-self}
-use Rattle.topk.specs.Entries.{Entry, first, insert, keep, lastOr}
+use Rattle.topk.specs.Entries.{Entry, ranksBefore, insert, keep, lastOr}
 
 abbrev pub All : (Entry → Type 0) → List Entry → Type 0
 All P [] = Unit {0}
@@ -47,10 +47,10 @@ Sorted-take (suc k) [] s = tt
 Sorted-take (suc k) (x ∷ xs) s = (All-take (Ahead x) k xs (s .0), Sorted-take k xs (s .1))
 
 -- a split on the test, with what it says
-split : (C : List Entry → Type 0) (e x : Entry) (l r : List Entry) → (Ahead e x → C l) → (Behind e x → C r) → C (cond (first e x) l r)
-split C e x l r f g = go (first e x) refl
+split : (C : List Entry → Type 0) (e x : Entry) (l r : List Entry) → (Ahead e x → C l) → (Behind e x → C r) → C (cond (ranksBefore e x) l r)
+split C e x l r f g = go (ranksBefore e x) refl
   where
-    go : (t : Bool) → first e x ≡ t → C (cond t l r)
+    go : (t : Bool) → ranksBefore e x ≡ t → C (cond t l r)
     go true q = f q
     go false q = g q
 
@@ -89,7 +89,8 @@ cut (suc k) (x ∷ xs) y s i =
     (λ j. ⊎-elim (λ m. inl (inr m)) (λ o. inr (ap suc (o .0), (All-in (Ahead x) xs y (s .0) j, o .1))) (cut k xs y (s .1) j)) i
 
 -- what holds of all of a full list, and of e where it holds of one that e ranks before, holds after e is put in
-pub push : (P : Entry → Type 0) (k : ℕ) (e : Entry) (xs : List Entry) → length xs ≡ k → ((x : Entry) → Ahead e x → P x → P e) → All P xs → All P (take k (insert e xs))
+pub push : (P : Entry → Type 0) (k : ℕ) (e : Entry) (xs : List Entry) → length xs ≡ k → ((x : Entry) → Ahead e x → P x → P e)
+    → All P xs → All P (take k (insert e xs))
 unfolding insert
 push P zero e xs l f a = tt
 push P (suc k) e [] l f a = absurd (omega arith)
@@ -104,7 +105,8 @@ insert-or zero e [] l = inr (refl, refl)
 insert-or zero e (x ∷ xs) l = absurd (omega arith)
 insert-or (suc k) e [] l = inl (inl refl)
 insert-or (suc k) e (x ∷ xs) l =
-    split (λ (r : List Entry). In e (take (suc k) r) ⊎ (take (suc k) r ≡ x ∷ xs) × (suc (length xs) ≡ suc k)) e x (e ∷ x ∷ xs) (x ∷ insert e xs) (λ b. inl (inl refl))
+    split (λ (r : List Entry). In e (take (suc k) r) ⊎ (take (suc k) r ≡ x ∷ xs) × (suc (length xs) ≡ suc k)) e x (e ∷ x ∷ xs) (x ∷ insert e xs)
+    (λ b. inl (inl refl))
     (λ n. ⊎-elim (λ i. inl (inr i)) (λ q. inr (ap {B = List Entry} (λ r. x ∷ r) (q .0), ap suc (q .1))) (insert-or k e xs (le-of-suc-le-suc l)))
 
 last-all : (P : Entry → Type 0) (x : Entry) (xs : List Entry) → P x → All P xs → P (lastOr x xs)
@@ -124,7 +126,7 @@ before-last d xs y s b = All-of (λ x. Ahead x y) xs (λ x i. behind-ahead x (la
 pub length-insert : (e : Entry) (xs : List Entry) → length (insert e xs) ≡ suc (length xs)
 unfolding insert
 length-insert e [] = refl
-length-insert e (x ∷ xs) = elim (test (first e x)) [ inl t ↦ rw t | inr t ↦ rw t (ap suc (length-insert e xs)) ]
+length-insert e (x ∷ xs) = elim (test (ranksBefore e x)) [ inl t ↦ rw t | inr t ↦ rw t (ap suc (length-insert e xs)) ]
 
 pub length-keep : (k : ℕ) (e : Entry) (xs : List Entry) → length (keep k e xs) ≡ min (length xs + 1) k
 unfolding keep

@@ -19,15 +19,14 @@ use Rattle.state.specs.Outcome.{lengths}
 use Rattle.state.specs.Refusal.{everyone, refusal}
 use Rattle.state.specs.Spare.{Alike, SameBits, SameSpare, SpareKept}
 use Rattle.state.specs.State.{graph, size, State}
-use Rattle.topk.proofs.NextLaws.{best, best-looking, IsBest}
-use Rattle.topk.proofs.TurnLaws.{listed-figures, steps-lengths}
-use Rattle.topk.specs.Entries.{entry, keep, stops}
-use Rattle.topk.specs.Layout.{over}
-use Rattle.topk.specs.List.{accepted, listCall, listConditions, Listed, wanted}
-use Rattle.topk.specs.Steps.{at, bestBelow, listed, Next, nothing, Progress, start, step, stepAt, steps, stored, took, worth}
+use Rattle.topk.proofs.NextLaws.{is-best, best-looking, IsBest}
+use Rattle.topk.proofs.TurnLaws.{all-steps-figures, steps-lengths}
+use Rattle.topk.specs.Entries.{entry, keep, over, stops}
+use Rattle.topk.specs.List.{acceptedList, listCall, listConditions, Listed, wanted}
+use Rattle.topk.specs.Steps.{at, bestBelow, allSteps, Next, nothing, Progress, atStart, step, stepAt, steps, stored, took, worth}
 
 -- what two lists leave differs in spare bits at most
-pub record AlikeListed (l m : Listed) : Type 0 where
+pub record AlikeListed (A : Type 0) (l m : Listed A) : Type 0 where
   pub refusal : l .refusal ≡ m .refusal
   pub recomputed : l .recomputed ≡ m .recomputed
   pub after : Alike (l .after) (m .after)
@@ -53,22 +52,22 @@ module _ (T : ℕ → ℕ) (k : ℕ) where
       let n = length (s′ .figures) in
       same-trans (steps-spare s t)
       (subst (λ m. SameSpare (markBits m) (s′ .marks) (step T k s′ .marks)) (steps-lengths T k t s .figures)
-      (step-at-spare s′ n (bestBelow s′ n) (best s′ n)))
+      (step-at-spare s′ n (bestBelow s′ n) (is-best s′ n)))
 
-  listed-spare : (F M : List ℕ) → SameSpare (markBits (length F)) M (listed T k F M .marks)
-  unfolding listed
-  listed-spare F M = steps-spare (start F M) (length F)
+  all-steps-spare : (F M : List ℕ) → SameSpare (markBits (length F)) M (allSteps T k F M .marks)
+  unfolding allSteps
+  all-steps-spare F M = steps-spare (atStart F M) (length F)
 
 pub list-spare : (s : State) (entries scratch : List ℕ) → SpareKept s (listCall s entries scratch .after)
-unfolding listCall accepted
+unfolding listCall acceptedList
 list-spare s entries scratch =
-    let r = refusal (lengths s ++ listConditions (size s) (graph s) (wanted entries) scratch) in
+    let r = refusal (lengths s ++ listConditions (size s) (graph s) (wanted entries) (length scratch)) in
     let T = score (graph s) (size s) in
     elim (ℕ-discrete r 0) [
       | yes z ↦ rw (eq-eqb r 0 z) (record {
-        nodes = sym (listed-figures T (wanted entries) (s .figures) (s .marks));
+        nodes = sym (all-steps-figures T (wanted entries) (s .figures) (s .marks));
         edges = same-refl (s .edges);
-        marks = listed-spare T (wanted entries) (s .figures) (s .marks);
+        marks = all-steps-spare T (wanted entries) (s .figures) (s .marks);
       })
       | no d ↦ rw (ne-eqb r 0 d) (spare-refl s)
     ]
@@ -118,7 +117,7 @@ module _ (T U : ℕ → ℕ) (k n : ℕ) (agree : (p : ℕ) → p < n → T p �
 
     step-marked : Beside n (step T k s) (step U k (marked s M))
     unfolding step
-    step-marked = rw (← same-next (length (s .figures)), nodes) (step-at-beside (bestBelow s n) (best s n))
+    step-marked = rw (← same-next (length (s .figures)), nodes) (step-at-beside (bestBelow s n) (is-best s n))
 
   step-beside : (s t : Progress) → Beside n s t → Beside n (step T k s) (step U k t)
   step-beside s t h = subst (λ u. Beside n (step T k s) (step U k u)) (sym (h .others)) (step-marked s (h .nodes) (t .marks) (h .marks))
@@ -128,25 +127,25 @@ module _ (T U : ℕ → ℕ) (k n : ℕ) (agree : (p : ℕ) → p < n → T p �
   steps-beside s t zero h = h
   steps-beside s t (suc i) h = step-beside (steps T k i s) (steps U k i t) (steps-beside s t i h)
 
-listed-beside : (T U : ℕ → ℕ) (k : ℕ) (F : List ℕ) {M N : List ℕ} → ((p : ℕ) → p < length F → T p ≡ U p) → SameBits (markBits (length F)) M N
-    → Beside (length F) (listed T k F M) (listed U k F N)
-unfolding listed
-listed-beside T U k F {M} {N} agree e =
-    steps-beside T U k (length F) agree (start F M) (start F N) (length F) (record { nodes = refl; others = refl; marks = e })
+all-steps-beside : (T U : ℕ → ℕ) (k : ℕ) (F : List ℕ) {M N : List ℕ} → ((p : ℕ) → p < length F → T p ≡ U p) → SameBits (markBits (length F)) M N
+    → Beside (length F) (allSteps T k F M) (allSteps U k F N)
+unfolding allSteps
+all-steps-beside T U k F {M} {N} agree e =
+    steps-beside T U k (length F) agree (atStart F M) (atStart F N) (length F) (record { nodes = refl; others = refl; marks = e })
 
 module _ {s t : State} (h : Alike s t) (entries scratch : List ℕ) where
   abbrev k : ℕ
   k = wanted entries
 
   abbrev run : State → Progress
-  run u = listed (score (graph u) (size u)) k (u .figures) (u .marks)
+  run u = allSteps (score (graph u) (size u)) k (u .figures) (u .marks)
 
   runs : Beside (size s) (run s) (run t)
-  runs = subst (λ F. Beside (size s) (run s) (listed (score (graph t) (length F)) k F (t .marks))) (h .figures)
-      (listed-beside (score (graph s) (size s)) (score (graph t) (size s)) k (s .figures) (λ p l. score-agree (size s) p l (alike-links h)) (h .marks))
+  runs = subst (λ F. Beside (size s) (run s) (allSteps (score (graph t) (length F)) k F (t .marks))) (h .figures)
+      (all-steps-beside (score (graph s) (size s)) (score (graph t) (size s)) k (s .figures) (λ p l. score-agree (size s) p l (alike-links h)) (h .marks))
 
-  accepted-alike : AlikeListed (accepted s entries scratch) (accepted t entries scratch)
-  unfolding accepted
+  accepted-alike : AlikeListed ℕ (acceptedList s entries scratch) (acceptedList t entries scratch)
+  unfolding acceptedList
   accepted-alike =
       let same : run t ≡ marked (run s) (run t .marks) = runs .others in
       record {
@@ -158,12 +157,12 @@ module _ {s t : State} (h : Alike s t) (entries scratch : List ℕ) where
       }
 
   abbrev refusalOf : State → ℕ
-  refusalOf u = refusal (lengths u ++ listConditions (size u) (graph u) k scratch)
+  refusalOf u = refusal (lengths u ++ listConditions (size u) (graph u) k (length scratch))
 
   list-same : refusalOf s ≡ refusalOf t
   list-same = rest-alike h _ _ (rw (before-agree (size s) (graph s) (graph t) everyone everyone (alike-links h) (λ p l. refl), alike-nodes h))
 
-  pub list-alike : AlikeListed (listCall s entries scratch) (listCall t entries scratch)
+  pub list-alike : AlikeListed ℕ (listCall s entries scratch) (listCall t entries scratch)
   unfolding listCall
   list-alike = elim (ℕ-discrete (refusalOf s) 0) [
     | yes z ↦ rw (← list-same, eq-eqb (refusalOf s) 0 z) accepted-alike

@@ -12,12 +12,8 @@ use Rattle.arith.specs.Lists.{count}
 use Rattle.topk.proofs.LayoutLaws.{entries-flat, flat-append, flat-drop, flat-take, length-entriesOf, length-flat}
 use Rattle.topk.proofs.PlaceLaws.{keep-put, length-put-in, place-le, put-in}
 use Rattle.topk.proofs.Sort.{length-keep}
-use Rattle.topk.specs.Entries.{Entry, flat, keep}
-use Rattle.topk.specs.Layout.{entriesOf, Kept, place, spliced}
-
--- the first n of X, and E from there
-abbrev pub mixed : List ℕ → List ℕ → ℕ → List ℕ
-mixed X E n = take n X ++ drop n E
+use Rattle.topk.specs.Entries.{Entry, flat, keep, entriesOf}
+use Rattle.topk.specs.inside.Layout.{entryPutIn, Kept, mixed, place, spliced}
 
 pub mixed-suc : (X E : List ℕ) (n : ℕ) → n < length X → n < length E → set (mixed X E n) n (getD X n 0) ≡ mixed X E (suc n)
 mixed-suc X E n hx he =
@@ -114,11 +110,12 @@ module _ (m : ℕ) (E : List ℕ) (e : Entry) (room : 2 * m ≤ length E) where
       let a : ℕ = place e xs in
       let l : 2 * a ≤ length (flat xs) = rw length-flat (omega (arith, place-le e xs)) in
       let t : take (2 * a) E ≡ flat (take a xs) = ap (take (2 * a)) (sym (entries-flat m E room)) ∙ take-append-le (2 * a) (flat xs) R l ∙ flat-take a xs in
-      let d : drop (2 * a) E ≡ flat (drop a xs) ++ R = ap (drop (2 * a)) (sym (entries-flat m E room)) ∙ drop-append-le (2 * a) (flat xs) R l ∙ ap (λ (z : List ℕ). z ++ R) (flat-drop a xs) in
+      let d : drop (2 * a) E ≡ flat (drop a xs) ++ R =
+      ap (drop (2 * a)) (sym (entries-flat m E room)) ∙ drop-append-le (2 * a) (flat xs) R l ∙ ap (λ (z : List ℕ). z ++ R) (flat-drop a xs) in
       rw (t, d, flat-append (take a xs) (e ∷ drop a xs), append-assoc)
 
   pub kept-law : (k r : ℕ) (E′ : List ℕ) → r ≡ min (m + 1) k
-      → E′ ≡ take (2 * r) (spliced E (2 * place e xs) (e .node) (e .figure)) ++ drop (2 * r) E → Kept (keep k e xs) E E′ r
+      → E′ ≡ entryPutIn E (place e xs) (e .node) (e .figure) r → Kept (keep k e xs) E E′ r
   kept-law k r E′ hr hE =
       let n : length (put-in e xs) ≡ m + 1 = length-put-in e xs ∙ rw length-entriesOf in
       let c : r ≡ length (keep k e xs) = hr ∙ rw (length-keep k e xs, length-entriesOf) in
@@ -126,5 +123,6 @@ module _ (m : ℕ) (E : List ℕ) (e : Entry) (room : 2 * m ≤ length E) where
       let t : take r (put-in e xs) ≡ take k (put-in e xs) = rw (hr, ← n) (take-min k (put-in e xs)) in
       record {
         count = c;
-        entries = hE ∙ rw (spliced-flat, take-append-le (2 * r) (flat (put-in e xs)) R l, flat-take r (put-in e xs), t, length-flat (keep k e xs), ← c, keep-put k e xs);
+        entries = hE ∙ rw (spliced-flat, take-append-le (2 * r) (flat (put-in e xs)) R l, flat-take r (put-in e xs))
+            (rw (t, length-flat (keep k e xs), ← c, keep-put k e xs));
       }

@@ -10,7 +10,7 @@ use lib.ListN.{length, length-take, take}
 use Rattle.topk.proofs.Order.{Ahead, ahead-asym, Behind, behind-flip, behind-self}
 use Rattle.topk.proofs.Sort.{All, All-in, All-map, All-of, All-take, cut, In, in-insert, in-old, insert-all, insert-sorted, length-insert, Sorted, Sorted-take}
 use Rattle.topk.specs.Entries.{Entry, entry, insert}
-use Rattle.topk.specs.Right.{ranking}
+use Rattle.topk.specs.Ranking.{ranking}
 
 -- xs has the first of the entries that P holds of: it is sorted, and each entry outside it ranks after all of it
 pub record First (P : Entry → Type 0) (xs : List Entry) : Type 0 where
@@ -30,7 +30,8 @@ tail-first : (P : Entry → Type 0) (x : Entry) (xs : List Entry) → First P (x
 tail-first P x xs t = record {
   sorted = t .sorted .1;
   real = All-of (λ y. P y × Ahead x y) xs (λ y i. (All-in P xs y (t .real .1) i, All-in (Ahead x) xs y (t .sorted .0) i));
-  rest = λ y p. ⊎-elim (λ i. ⊎-elim (λ q. absurd (true≢false (sym (subst (Ahead x) (sym q) (p .1)) ∙ behind-self x))) (λ j. inl j) i) (λ a. inr (a .1)) (t .rest y (p .0));
+  rest = λ y p. ⊎-elim (λ i. ⊎-elim (λ q. absurd (true≢false (sym (subst (Ahead x) (sym q) (p .1)) ∙ behind-self x))) (λ j. inl j) i)
+      (λ a. inr (a .1)) (t .rest y (p .0));
 }
 
 -- two such lists of one length are one list
@@ -39,7 +40,8 @@ first-unique P [] [] l s t = refl
 first-unique P [] (y ∷ ys) l s t = absurd (omega arith)
 first-unique P (x ∷ xs) [] l s t = absurd (omega arith)
 first-unique P (x ∷ xs) (y ∷ ys) l s t =
-    let e : x ≡ y = ⊎-elim (λ q. q) (λ b. ⊎-elim (λ q. sym q) (λ c. absurd (clash x y b c)) (head-is P y ys x t (s .real .0))) (head-is P x xs y s (t .real .0)) in
+    let e : x ≡ y = ⊎-elim (λ q. q) (λ b. ⊎-elim (λ q. sym q) (λ c. absurd (clash x y b c)) (head-is P y ys x t (s .real .0)))
+    (head-is P x xs y s (t .real .0)) in
     let t′ : First (λ z. P z × Ahead x z) ys = subst (λ (w : Entry). First (λ z. P z × Ahead w z) ys) (sym e) (tail-first P y ys t) in
     ap₂ {C = List Entry} (λ a r. a ∷ r) e (first-unique (λ z. P z × Ahead x z) xs ys (omega arith) (tail-first P x xs s) t′)
 
@@ -60,14 +62,16 @@ ranking-real : (T : ℕ → ℕ) (n : ℕ) → All (Node T n) (ranking T n)
 unfolding ranking
 ranking-real T zero = tt
 ranking-real T (suc n) =
-    insert-all (Node T (suc n)) (scored T n) (ranking T n) (omega arith, refl) (All-map {P = Node T n} {Q = Node T (suc n)} (λ x r. (omega arith, r .1)) (ranking T n) (ranking-real T n))
+    insert-all (Node T (suc n)) (scored T n) (ranking T n) (omega arith, refl)
+    (All-map {P = Node T n} {Q = Node T (suc n)} (λ x r. (omega arith, r .1)) (ranking T n) (ranking-real T n))
 
 ranking-sorted : (T : ℕ → ℕ) (n : ℕ) → Sorted (ranking T n)
 unfolding ranking
 ranking-sorted T zero = tt
 ranking-sorted T (suc n) =
     insert-sorted (scored T n) (ranking T n)
-    (All-map {P = Node T n} {Q = λ x. Behind (scored T n) x → Ahead x (scored T n)} (λ x r. behind-flip (scored T n) x (λ (c : n ≡ x .node). omega arith)) (ranking T n) (ranking-real T n))
+    (All-map {P = Node T n} {Q = λ x. Behind (scored T n) x → Ahead x (scored T n)}
+    (λ x r. behind-flip (scored T n) x (λ (c : n ≡ x .node). omega arith)) (ranking T n) (ranking-real T n))
     (ranking-sorted T n)
 
 ranking-has : (T : ℕ → ℕ) (n q : ℕ) → q < n → In (scored T q) (ranking T n)

@@ -14,8 +14,8 @@ use Rattle.state.specs.Marks.{stale}
 use Rattle.state.proofs.MarkLaws.{length-withMark}
 use Rattle.topk.proofs.Sort.{length-keep}
 use Rattle.topk.specs.Entries.{entry, stops}
-use Rattle.topk.specs.Steps.{at, bestBelow, listed, Next, nothing, Progress, start, step, stepAt, steps, stored, took, worth}
-use Rattle.topk.specs.Turns.{next, stopped, stoppedAt}
+use Rattle.topk.specs.Steps.{at, bestBelow, allSteps, Next, nothing, Progress, atStart, step, stepAt, steps, stored, took, worth}
+use Rattle.topk.specs.inside.Next.{next, stopped, stoppedAt}
 
 -- what a step keeps of the counts
 pub record Grows (k : ℕ) (s s′ : Progress) : Type 0 where
@@ -42,12 +42,12 @@ unfolding step
 grows T k s h = step-grows T k s (bestBelow s (length (s .figures))) h
 
 -- the counts after t steps
-pub counts : (T : ℕ → ℕ) (k : ℕ) (F M : List ℕ) (t : ℕ) → (length (steps T k t (start F M) .kept) ≤ k) × (steps T k t (start F M) .recomputed ≤ t)
+pub counts : (T : ℕ → ℕ) (k : ℕ) (F M : List ℕ) (t : ℕ) → (length (steps T k t (atStart F M) .kept) ≤ k) × (steps T k t (atStart F M) .recomputed ≤ t)
 unfolding steps
 counts T k F M zero = (zero-le, le-refl 0)
 counts T k F M (suc t) =
     let c = counts T k F M t in
-    let g = grows T k (steps T k t (start F M)) (c .0) in
+    let g = grows T k (steps T k t (atStart F M)) (c .0) in
     (g .room, omega arith)
 
 -- a step of a list that has stopped changes nothing
@@ -107,10 +107,10 @@ steps-lengths T k (suc t) s =
     record { figures = b .figures ∙ a .figures; marks = b .marks ∙ a .marks; taken = b .taken ∙ a .taken }
 
 -- of the whole list
-pub listed-figures : (T : ℕ → ℕ) (k : ℕ) (F M : List ℕ) → length (listed T k F M .figures) ≡ length F
-unfolding listed
-listed-figures T k F M = steps-lengths T k (length F) (start F M) .figures
+pub all-steps-figures : (T : ℕ → ℕ) (k : ℕ) (F M : List ℕ) → length (allSteps T k F M .figures) ≡ length F
+unfolding allSteps
+all-steps-figures T k F M = steps-lengths T k (length F) (atStart F M) .figures
 
-pub listed-marks : (T : ℕ → ℕ) (k : ℕ) (F M : List ℕ) → length (listed T k F M .marks) ≡ length M
-unfolding listed
-listed-marks T k F M = steps-lengths T k (length F) (start F M) .marks
+pub all-steps-marks : (T : ℕ → ℕ) (k : ℕ) (F M : List ℕ) → length (allSteps T k F M .marks) ≡ length M
+unfolding allSteps
+all-steps-marks T k F M = steps-lengths T k (length F) (atStart F M) .marks

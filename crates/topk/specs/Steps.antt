@@ -6,7 +6,7 @@ use lib.Dec.{eqb}
 use lib.ListN.{getD, set, replicate, length}
 use Rattle.arith.specs.Sums.{bit}
 use Rattle.state.specs.Marks.{stale, withMark}
-use Rattle.topk.specs.Entries.{Entry, entry, first, keep, stops}
+use Rattle.topk.specs.Entries.{Entry, entry, ranksBefore, keep, stops}
 
 -- the stored figures, the marks, which nodes are taken (0 is not), the kept entries, and how many nodes were recomputed (01: worked out)
 pub record Progress : Type 0 where
@@ -28,7 +28,7 @@ pub data Next : Type 0 where
 -- of the best so far and node i, the one that ranks first by stored figure; a node that is taken does not count
 unfoldable pub better : Progress → Next → ℕ → Next
 better s nothing i = cond (eqb (getD (s .taken) i 0) 0) (at i) nothing
-better s (at b) i = cond (eqb (getD (s .taken) i 0) 0) (cond (first (stored s i) (stored s b)) (at i) (at b)) (at b)
+better s (at b) i = cond (eqb (getD (s .taken) i 0) 0) (cond (ranksBefore (stored s i) (stored s b)) (at i) (at b)) (at b)
 
 -- the first by rank among the nodes below i that are not taken
 unfoldable pub bestBelow : Progress → ℕ → Next
@@ -61,9 +61,9 @@ unfoldable pub steps : (ℕ → ℕ) → ℕ → ℕ → Progress → Progress
 steps truth k zero s = s
 steps truth k (suc t) s = step truth k (steps truth k t s)
 
-abbrev pub start : List ℕ → List ℕ → Progress
-start figures marks = record { figures = figures; marks = marks; taken = replicate (length figures) 0; kept = []; recomputed = 0 }
+abbrev pub atStart : List ℕ → List ℕ → Progress
+atStart figures marks = record { figures = figures; marks = marks; taken = replicate (length figures) 0; kept = []; recomputed = 0 }
 
 -- as many steps as there are nodes
-unfoldable pub listed : (ℕ → ℕ) → ℕ → List ℕ → List ℕ → Progress
-listed truth k figures marks = steps truth k (length figures) (start figures marks)
+unfoldable pub allSteps : (ℕ → ℕ) → ℕ → List ℕ → List ℕ → Progress
+allSteps truth k figures marks = steps truth k (length figures) (atStart figures marks)

@@ -1,11 +1,10 @@
 // The kept entries in their buffer, best first: entry i has its node at 2i and its figure at 2i + 1.
 use crate::rank::ranks_before;
 ghost use mathlib.Core.Path.{_≡_};
-ghost use mathlib.Core.List.{_++_};
 ghost use Prim.Native.Nat.{_+_, _*_, _<_, _≤_, min};
-ghost use lib.ListN.{length, getD, set, drop, take};
-ghost use Rattle.topk.specs.Entries.{entry, keep, stops};
-ghost use Rattle.topk.specs.Layout.{entriesOf, place, spliced, Kept};
+ghost use lib.ListN.{length, getD, set};
+ghost use Rattle.topk.specs.Entries.{entry, keep, stops, entriesOf};
+ghost use Rattle.topk.specs.inside.Layout.{place, entryPutIn, Kept};
 
 #[repr(C)]
 pub struct Entry {
@@ -24,7 +23,7 @@ fn entry_at(entries: &[u64], i: usize) -> Entry
     Entry { node, figure }
 }
 
-fn put(entries: &mut [u64], i: usize, node: u64, figure: u64)
+fn put_entry(entries: &mut [u64], i: usize, node: u64, figure: u64)
     requires { ⌜ 2 * i + 1 < length (now entries) ⌝ }
     ensures { λ _. ⌜ now (entries .exit) ≡ set (set (now (entries .entry)) (2 * i) node) (2 * i + 1) figure ⌝ }
 {
@@ -60,20 +59,20 @@ fn shift_in(
     figure: u64,
 ) -> usize
     requires { ⌜ (2 * k ≤ length (now entries)) × (kept ≤ k) × (spot ≤ kept) ⌝ }
-    ensures { λ r. ⌜ (r ≡ min (kept + 1) k) × (now (entries .exit) ≡ take (2 * r) (spliced (now (entries .entry)) (2 * spot) node figure) ++ drop (2 * r) (now (entries .entry))) ⌝ }
+    ensures { λ r. ⌜ (r ≡ min (kept + 1) k) × (now (entries .exit) ≡ entryPutIn (now (entries .entry)) spot node figure r) ⌝ }
 {
     let mut p = node;
     let mut f = figure;
     let mut i = spot;
     while i < kept {
         let e = entry_at(entries, i);
-        put(entries, i, p, f);
+        put_entry(entries, i, p, f);
         p = e.node;
         f = e.figure;
         i += 1;
     }
     if kept < k {
-        put(entries, kept, p, f);
+        put_entry(entries, kept, p, f);
         return kept + 1;
     }
     kept

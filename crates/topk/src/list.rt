@@ -6,16 +6,15 @@ use state::refusal::CROWDED_BEFORE;
 use state::refusal::ENTRY_COUNT;
 use state::refusal::SCRATCH;
 use state::sizes::state_refusal;
-ghost use mathlib.Core.List.{_++_, _∷_, []};
+ghost use mathlib.Core.List.{_++_};
 ghost use mathlib.Core.Path.{_≡_};
-ghost use Prim.Native.Nat.{_*_, _/_, _<_, _≤_};
 ghost use lib.ListN.{length, replicate};
 ghost use Rattle.packed.specs.Edges.{edge};
-ghost use Rattle.state.specs.Marks.{markBytes};
-ghost use Rattle.state.specs.Outcome.{state, stateLengths};
-ghost use Rattle.state.specs.Refusal.{refusal, scratchLength, listLength, crowdedBefore, everyone};
-ghost use Rattle.topk.specs.List.{listing, listCall};
-ghost use Rattle.topk.specs.Turns.{Scorable, Written, listOf};
+ghost use Rattle.state.specs.Outcome.{stateLengths};
+ghost use Rattle.state.specs.Refusal.{refusal};
+ghost use Rattle.topk.specs.List.{listCall, listConditions};
+ghost use Rattle.topk.specs.ListLent.{atListEntry, atListExit};
+ghost use Rattle.topk.specs.inside.Turns.{fitsList, leavesList};
 
 // The refusal number, and how many nodes were recomputed, which is 0 beside a refusal.
 pub struct Answer {
@@ -25,7 +24,7 @@ pub struct Answer {
 
 // The refusal of a list of k entries, of n nodes and so many bytes of marks and of scratch.
 fn list_refusal(edges: &[u8], n: usize, marks: usize, k: usize, scratch: usize) -> u64
-    ensures { λ r. ⌜ r ≡ refusal (stateLengths n (length (now (edges .entry))) marks ++ scratchLength n scratch ∷ listLength n k ∷ crowdedBefore (edge (now (edges .entry))) n everyone ∷ []) ⌝ }
+    ensures { λ r. ⌜ r ≡ refusal (stateLengths n (length (now (edges .entry))) marks ++ listConditions n (edge (now (edges .entry))) k scratch) ⌝ }
 {
     let size = state_refusal(n, edges.len(), marks);
     if size != 0 {
@@ -55,8 +54,8 @@ fn accepted(
     scratch: &mut [u8],
     k: usize,
 ) -> u64
-    requires { ⌜ Scorable (length (now figures)) (now edges) × (markBytes (length (now figures)) ≤ length (now marks)) × (length (now scratch) ≡ length (now figures)) × (2 * k ≤ length (now entries)) × (0 < k) ⌝ }
-    ensures { λ r. ⌜ Written (listOf (now (edges .entry)) k (now (figures .entry)) (now (marks .entry))) (now (figures .exit)) (now (marks .exit)) (now (entries .entry)) (now (entries .exit)) r × (now (scratch .exit) ≡ replicate (length (now (figures .entry))) 0) ⌝ }
+    requires { ⌜ fitsList edges figures marks entries k × (length (now scratch) ≡ length (now figures)) ⌝ }
+    ensures { λ r. ⌜ leavesList edges figures marks entries k r × (now (scratch .exit) ≡ replicate (length (now (figures .entry))) 0) ⌝ }
 {
     zero(scratch);
     let recomputed = run(edges, figures, marks, scratch, entries, k);
@@ -72,7 +71,7 @@ pub fn list(
     entries: &mut [u64],
     scratch: &mut [u8],
 ) -> Answer
-    ensures { λ r. ⌜ listing (r .refusal) (r .recomputed) (state (now (edges .entry)) (now (figures .exit)) (now (marks .exit))) (now (entries .exit)) (now (scratch .exit)) ≡ listCall (state (now (edges .entry)) (now (figures .entry)) (now (marks .entry))) (now (entries .entry)) (now (scratch .entry)) ⌝ }
+    ensures { λ r. ⌜ atListExit r edges figures marks entries scratch ≡ atListEntry listCall edges figures marks entries scratch ⌝ }
 {
     let n = figures.len();
     let k = entries.len() / 2;

@@ -2,16 +2,12 @@
 use ego::neighbours::neighbours_of;
 use ego::score::score_of;
 use state::marks::is_stale;
-ghost use mathlib.Core.List.{[]};
 ghost use mathlib.Core.Path.{_≡_};
-ghost use Prim.Native.Nat.{_+_, _≤_, _<_};
+ghost use Prim.Native.Nat.{_<_};
 ghost use lib.ListN.{length};
-ghost use Rattle.arith.specs.Sums.{bit};
 ghost use Rattle.packed.specs.Edges.{edge};
 ghost use Rattle.ego.specs.Score.{score};
-ghost use Rattle.state.specs.Marks.{stale, markBytes};
-ghost use Rattle.topk.specs.Steps.{worth};
-ghost use Rattle.topk.specs.Turns.{truthOf, progressOf, Scorable};
+ghost use Rattle.topk.specs.inside.Turns.{worthOf, Scorable, Workable};
 
 // A node's figure as it is listed, and how many nodes have been recomputed then.
 pub struct Worth {
@@ -38,8 +34,8 @@ pub(crate) fn worth_of(
     p: usize,
     recomputed: u64,
 ) -> Worth
-    requires { ⌜ (p < length (now figures)) × Scorable (length (now figures)) (now edges) × (markBytes (length (now figures)) ≤ length (now marks)) × (recomputed < length (now figures)) ⌝ }
-    ensures { λ r. ⌜ (r .figure ≡ worth (truthOf (now (edges .entry)) (now (figures .entry))) (progressOf (now (figures .entry)) (now (marks .entry)) [] [] 0 0) p) × (r .recomputed ≡ recomputed + bit (stale (now (marks .entry)) p)) ⌝ }
+    requires { ⌜ (p < length (now figures)) × Workable (length (now figures)) (now edges) (now marks) × (recomputed < length (now figures)) ⌝ }
+    ensures { λ r. ⌜ r ≡ worthOf (now (edges .entry)) (now (figures .entry)) (now (marks .entry)) p recomputed ⌝ }
 {
     if is_stale(marks, p) {
         let figure = fresh_score(edges, figures.len(), p);

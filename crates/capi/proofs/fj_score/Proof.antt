@@ -5,14 +5,8 @@ use Rattle.capi.proofs.CallLaws.{score-given}
 use Rattle.capi.proofs.fj_score.Statement.{statement}
 use Rattle.capi.proofs.fj_score.Tie as tie
 
-score-requires : tie.Need-score-requires
-score-requires c κs = search needs
-
-one-number-requires : tie.Need-one-number-requires
-one-number-requires c κs = search needs
-
 returns : tie.Need-returns
 returns c = c .one-number .ensures ∙ score-given _ _ _ (c .before .score .ensures)
 
 pub fj-score-spec : {M : Type 1} → statement M
-fj-score-spec = tie.close (tie.spec score-requires one-number-requires returns)
+fj-score-spec = tie.close (tie.spec (λ c κs. search needs) (λ c κs. search needs) returns)

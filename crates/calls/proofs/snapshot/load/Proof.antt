@@ -1,73 +1,89 @@
 -- `calls::snapshot::load` meets its contract. Assumes nothing.
 use mathlib.Core.List.{[]}
 use mathlib.Core.Path.{ap, refl, sym, _∙_, _≡_}
-use Prim.Native.Nat.{_+_}
+use Prim.Native.Nat.{_+_, _≤_}
 use native.Mathlib.Omega.{arith}
 use denote.Ref.{now}
 use lib.ListN.{length}
 use Rattle.packed.proofs.DegreeLaws.{length-degrees}
-use Rattle.packed.specs.Degrees.{degreesOf}
+use Rattle.packed.specs.inside.Degrees.{degreesOf}
 use Rattle.packed.specs.Edges.{edge}
-use Rattle.state.proofs.DegreeLaws.{bounds-by, degree-small, over-by}
+use Rattle.state.specs.Lent.{lent}
+use Rattle.state.specs.State.{State}
+use Rattle.state.proofs.DegreeLaws.{bounds-by, over-by, within-by}
 use Rattle.calls.proofs.OutcomeLaws.{call-accepted, call-refused, lengths-refused, loaded-is}
 use Rattle.state.proofs.RefusalLaws.{Fitted, fitted-by}
 use Rattle.calls.proofs.SnapshotLaws.{Fits, fits-by, form-refused, load-crowded, load-passed, part-is, part-length}
-use Rattle.state.specs.Outcome.{state}
 use Rattle.state.specs.Refusal.{everyone, snapshotEdges, tooMany}
 use Rattle.calls.specs.Snapshot.{loadCall}
 use borrow.Author.Needs.{needs}
 use Rattle.calls.proofs.snapshot.load.Statement.{statement}
 use Rattle.calls.proofs.snapshot.load.Tie as tie
 
+abbrev entry : tie.After-state-refusal → tie.Start
+entry c = c .before .before .before .before .before
+
+abbrev given : tie.After-state-refusal → State
+given c = lent (entry c .args .edges) (entry c .args .figures) (entry c .args .marks)
+
+abbrev start : tie.Else2 → tie.Start
+start c = entry (c .before .before .before)
+
+abbrev form : tie.After-degrees → tie.Else2
+form c = c .before .before .before
+
+abbrev degrees : tie.After-copy-edges → tie.After-degrees
+degrees c = c .before .before .before .before
+
+abbrev copied : tie.After-set-bounds → tie.After-copy-edges
+copied c = c .before .before .before .before .before
+
+abbrev few : tie.After-edges → tie.Else3
+few c = c .before .before .before
+
+abbrev bounds : tie.After-slice-known6 → tie.After-set-bounds
+bounds c = c .before .before .before .before .before .before
+
 -- what is known once the form has passed
 fitted : (c : tie.Else2) →
-    let s = c .before .before .before .before .before .before .before .before .args in
+    let s = start c .args in
     Fitted (length (now (s .figures))) (length (now (s .edges))) (length (now (s .marks)))
 fitted c = fitted-by (c .before .before .before .state-refusal .ensures) (c .before .before .if1 .left)
 
 fits : (c : tie.Else2) →
-    let s = c .before .before .before .before .before .before .before .before .args in
+    let s = start c .args in
     Fits (length (now (s .figures))) (now (s .snapshot))
-fits c =
-    let s = c .before .before .before .before .before .before .before .before in
-    fits-by _ (now (s .args .snapshot)) [] (c .before .form-refusal .ensures) (c .if2 .left)
+fits c = fits-by _ (now (start c .args .snapshot)) [] (c .before .form-refusal .ensures) (c .if2 .left)
 
 -- and once the degrees are there
 degrees-are : (c : tie.After-degrees) →
-    let s = c .before .before .before .before .before .before .before .before .before .before .before .args in
+    let s = start (form c) .args in
     c .before .degrees-of .result ≡ degreesOf (snapshotEdges (now (s .snapshot))) (length (now (s .figures)))
-degrees-are c =
-    let s = c .before .before .before .before .before .before .before .before .before .before .before in
-    let a = s .args in
-    c .before .degrees-of .ensures ∙ ap (λ l. degreesOf l (length (now (a .figures)))) (part-is (now (a .snapshot)))
+degrees-are c = let a = start (form c) .args in c .before .degrees-of .ensures ∙ ap (λ l. degreesOf l (length (now (a .figures)))) (part-is (now (a .snapshot)))
+
+degrees-long : (c : tie.After-degrees) → length (now (start (form c) .args .figures)) ≤ length (c .before .degrees-of .result)
+degrees-long c =
+    let a = start (form c) .args in
+    omega (arith, ap length (degrees-are c), length-degrees (snapshotEdges (now (a .snapshot))) (length (now (a .figures))), fitted (form c) .sizes .few)
 
 over : (c : tie.After-any-among) →
-    let s = c .before .before .before .before .before .before .before .before .before .before .before .before .args in
+    let s = start (form (c .before)) .args in
     c .any-among .result ≡ tooMany (edge (snapshotEdges (now (s .snapshot)))) (length (now (s .figures))) everyone
 over c =
-    let here = c .before .before .before .before in
-    let s = here .before .before .before .before .before .before .before .before in
-    let a = s .args in
+    let here = form (c .before) in
+    let a = start here .args in
     over-by (snapshotEdges (now (a .snapshot))) (length (now (a .figures))) (fitted here .sizes .few) (degrees-are (c .before)) (c .any-among .ensures)
-
-state-refusal-requires : tie.Need-state-refusal-requires
-state-refusal-requires c κs = search needs
 
 returns : tie.Need-returns
 unfolding loadCall
-returns c =
-    let s = c .before .before .before .before .before .before in
-    lengths-refused (state (now (s .args .edges)) (now (s .args .figures)) (now (s .args .marks))) _ _ (c .before .state-refusal .ensures) (c .if1 .taken)
-
-form-refusal-requires : tie.Need-form-refusal-requires
-form-refusal-requires c κs = search needs
+returns c = lengths-refused (given (c .before)) _ _ (c .before .state-refusal .ensures) (c .if1 .taken)
 
 returns-2 : tie.Need-returns-2
 unfolding loadCall
 returns-2 c =
-    let at-state-refusal = c .before .before .before in
-    let s = at-state-refusal .before .before .before .before .before in
-    call-refused (state (now (s .args .edges)) (now (s .args .figures)) (now (s .args .marks))) _ _ (fitted-by (at-state-refusal .state-refusal .ensures) (c .before .before .if1 .left)) (form-refused _ (now (s .args .snapshot)) (c .before .form-refusal .ensures) (c .if2 .taken)) (c .if2 .taken)
+    let sized = c .before .before .before in
+    call-refused (given sized) _ _ (fitted-by (sized .state-refusal .ensures) (c .before .before .if1 .left))
+    (form-refused _ (now (entry sized .args .snapshot)) (c .before .form-refusal .ensures) (c .if2 .taken)) (c .if2 .taken)
 
 sub-degrees-of : tie.Need-sub-degrees-of
 sub-degrees-of c = omega (arith, fits c .long)
@@ -75,93 +91,52 @@ sub-degrees-of c = omega (arith, fits c .long)
 part-degrees-of-start : tie.Need-part-degrees-of-start
 part-degrees-of-start c = omega (arith, fits c .long)
 
-part-degrees-of-end : tie.Need-part-degrees-of-end
-part-degrees-of-end c = search needs
-
 degrees-of-requires : tie.Need-degrees-of-requires
 degrees-of-requires c κs =
-    let s = c .before .before .before .before .before .before .before .before .before in
+    let s = start (c .before) in
     let f = fitted (c .before) in
     record { few = f .sizes .few; bits = omega (arith, part-length (now (s .args .snapshot)) (fits (c .before) .long)) }
 
-slice-aggregate-any-among : tie.Need-slice-aggregate-any-among
-slice-aggregate-any-among c = search needs
-
 any-among-requires : tie.Need-any-among-requires
-any-among-requires c κs =
-    let here = c .before .before .before in
-    let s = here .before .before .before .before .before .before .before .before in
-    omega (arith, ap length (degrees-are c), length-degrees (snapshotEdges (now (s .args .snapshot))) (length (now (s .args .figures))), fitted here .sizes .few)
+any-among-requires c κs = degrees-long c
 
 returns-3 : tie.Need-returns-3
 unfolding loadCall
 returns-3 c =
-    let e = c .before .before .before .before .before in
-    let s = e .before .before .before .before .before .before .before .before in
-    call-refused (state (now (s .args .edges)) (now (s .args .figures)) (now (s .args .marks))) _ _ (fitted e) (load-crowded _ (now (s .args .snapshot)) (e .before .form-refusal .ensures) (e .if2 .left) (sym (over (c .before)) ∙ c .if3 .taken)) (λ q. omega arith)
+    let e = form (c .before .before) in
+    call-refused (given (e .before .before .before)) _ _ (fitted e)
+    (load-crowded _ (now (start e .args .snapshot)) (e .before .form-refusal .ensures) (e .if2 .left) (sym (over (c .before)) ∙ c .if3 .taken))
+    (λ q. omega arith)
 
 copy-edges-requires : tie.Need-copy-edges-requires
-copy-edges-requires c κs =
-    let e = c .before .before .before .before .before .before in
-    fits e .long ∙ ap (λ m. 1 + m) (sym (fitted e .sizes .edgesFit))
-
-slice-aggregate-set-bounds : tie.Need-slice-aggregate-set-bounds
-slice-aggregate-set-bounds c = search needs
+copy-edges-requires c κs = let e = form (c .before .before .before) in fits e .long ∙ ap (λ m. 1 + m) (sym (fitted e .sizes .edgesFit))
 
 set-bounds-requires : tie.Need-set-bounds-requires
 set-bounds-requires c κs =
-    let d = c .before .before .before .before .before .before .before .before in
-    let s = d .before .before .before .before .before .before .before .before .before .before .before in
-    let few = fitted (d .before .before .before) .sizes .few in
-    (omega (arith, ap length (degrees-are d), length-degrees (snapshotEdges (now (s .args .snapshot))) (length (now (s .args .figures)))), degree-small _ _ few (degrees-are d))
+    let passed = few (c .before .before .before) in
+    let d = passed .before .before in
+    (degrees-long d, within-by (d .before .degrees-of .result) _ (passed .before .any-among .ensures) (passed .if3 .left))
 
 set-stale-requires : tie.Need-set-stale-requires
-set-stale-requires c κs =
-    let here = c .before .before .before .before .before .before .before .before .before .before .before .before .before .before .before in
-    fitted here .marksFit
-
-same-length : tie.Need-same-length
-same-length c = search needs
-
-same-length-2 : tie.Need-same-length-2
-same-length-2 c = search needs
-
-same-length-3 : tie.Need-same-length-3
-same-length-3 c = search needs
+set-stale-requires c κs = fitted (form (degrees (copied (c .before .before .before)))) .marksFit
 
 returns-4 : tie.Need-returns-4
 unfolding loadCall
 returns-4 c =
-    let at-set-bounds = c .before .before .before .before .before .before in
-    let at-copy-edges = at-set-bounds .before .before .before .before .before in
-    let at-if3 = at-copy-edges .before .before in
-    let here = at-if3 .before in
-    let d = here .before in
-    let e = d .before .before .before in
-    let s = e .before .before .before .before .before .before .before .before in
-    call-accepted (state (now (s .args .edges)) (now (s .args .figures)) (now (s .args .marks))) _ _ (fitted e) (load-passed _ (now (s .args .snapshot)) (e .before .form-refusal .ensures) (e .if2 .left) (sym (over here) ∙ at-if3 .if3 .left)) refl
-    (loaded-is _ (at-copy-edges .copy-edges .ensures) (at-set-bounds .set-bounds .ensures ∙ bounds-by (snapshotEdges (now (s .args .snapshot))) _ (fitted e .sizes .few) (degrees-are d)) (c .before .before .set-stale .ensures))
+    let bounded = bounds c in
+    let copy = copied bounded in
+    let passed = copy .before .before in
+    let d = passed .before .before in
+    let e = form d in
+    let snapshot = now (start e .args .snapshot) in
+    call-accepted (given (e .before .before .before)) _ _ (fitted e)
+    (load-passed _ snapshot (e .before .form-refusal .ensures) (e .if2 .left) (sym (over (passed .before)) ∙ passed .if3 .left)) refl
+    (loaded-is _ (copy .copy-edges .ensures) (bounded .set-bounds .ensures ∙ bounds-by (snapshotEdges snapshot) _ (fitted e .sizes .few) (degrees-are d))
+    (c .before .before .set-stale .ensures))
 
 pub load-spec : {M : Type 1} → statement M
 load-spec =
     tie.close
-    (tie.spec
-    state-refusal-requires
-    returns
-    form-refusal-requires
-    returns-2
-    sub-degrees-of
-    part-degrees-of-start
-    part-degrees-of-end
-    degrees-of-requires
-    slice-aggregate-any-among
-    any-among-requires
-    returns-3
-    copy-edges-requires
-    slice-aggregate-set-bounds
-    set-bounds-requires
-    set-stale-requires
-    same-length
-    same-length-2
-    same-length-3
-    returns-4)
+    (tie.spec (λ c κs. search needs) returns (λ c κs. search needs) returns-2 sub-degrees-of part-degrees-of-start (λ c. search needs)
+    degrees-of-requires (λ c. search needs) any-among-requires returns-3 copy-edges-requires (λ c. search needs) set-bounds-requires
+    set-stale-requires (λ c. search needs) (λ c. search needs) (λ c. search needs) returns-4)

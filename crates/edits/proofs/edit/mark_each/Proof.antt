@@ -6,7 +6,7 @@ use native.Mathlib.Omega.{arith}
 use denote.Ref.{now}
 use lib.ListN.{length}
 use Rattle.edits.proofs.ListedLaws.{length-stale-each, stale-each-more, stale-each-none}
-use Rattle.edits.specs.Touched.{staleEach}
+use Rattle.edits.specs.inside.Touched.{staleEach}
 use Rattle.edits.proofs.edit.mark_each.Statement.{statement}
 use Rattle.edits.proofs.edit.mark_each.Tie as tie
 
@@ -16,30 +16,27 @@ Inv-loop marks₀ count nodes i₀ marks i = (i ≤ count) × (marks ≡ staleEa
 abbrev μ-loop : tie.MeasureT-loop
 μ-loop marks₀ count nodes i₀ marks i = count - i
 
+abbrev turn : tie.After-put-arg Inv-loop μ-loop → tie.At-loop Inv-loop μ-loop
+turn c = c .before .before
+
+abbrev start : tie.After-put-arg Inv-loop μ-loop → tie.Start Inv-loop μ-loop
+start c = turn c .before .before
+
 loop-holds : tie.Need-loop-holds Inv-loop μ-loop
 loop-holds c = (omega arith, sym (stale-each-none _ _))
 
-array-read-put : tie.Need-array-read-put Inv-loop μ-loop
-array-read-put c = omega arith
-
 cast-put : tie.Need-cast-put Inv-loop μ-loop
-cast-put c = omega (arith, c .before .before .before .before .pre .1 (c .before .before .loop .i) (c .before .loop-test .taken) .0)
+cast-put c = omega (arith, start c .pre .0 .below (turn c .loop .i) (c .before .loop-test .taken))
 
 put-requires : tie.Need-put-requires Inv-loop μ-loop
 put-requires c κs =
-    let s = c .before .before .before .before in
-    let at = c .before .before .loop in
-    omega (arith, s .pre .1 (at .i) (c .before .loop-test .taken) .1, ap length (at .inv .1), length-stale-each (s .args .t2) (now (s .args .marks)) (at .i))
-
-add-i : tie.Need-add-i Inv-loop μ-loop
-add-i c = omega arith
-
-loop-less : tie.Need-loop-less Inv-loop μ-loop
-loop-less c = omega arith
+    let s = start c in
+    let at = turn c .loop in
+    omega (arith, s .pre .1 (at .i) (c .before .loop-test .taken), ap length (at .inv .1), length-stale-each (s .args .t2) (now (s .args .marks)) (at .i))
 
 loop-again : tie.Need-loop-again Inv-loop μ-loop
 loop-again c =
-    let at = c .before .before .before .before .before .loop in
+    let at = turn (c .before .before .before) .loop in
     (omega arith, stale-each-more _ _ (at .i) (at .inv .1) (c .before .before .put .ensures))
 
 same-length : tie.Need-same-length Inv-loop μ-loop
@@ -51,15 +48,5 @@ returns c = c .before .loop .inv .1 ∙ ap (staleEach _ _) (le-antisymm (c .befo
 pub mark-each-spec : {M : Type 1} → statement M
 mark-each-spec =
     tie.close
-    (tie.spec
-    Inv-loop
-    μ-loop
-    loop-holds
-    array-read-put
-    cast-put
-    put-requires
-    add-i
-    loop-less
-    loop-again
-    same-length
-    returns)
+    (tie.spec Inv-loop μ-loop loop-holds (λ c. omega arith) cast-put put-requires (λ c. omega arith) (λ c. omega arith) loop-again
+    same-length returns)

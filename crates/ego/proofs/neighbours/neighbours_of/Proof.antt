@@ -1,18 +1,14 @@
--- `ego::neighbours::neighbours_of` meets its contract: the row has the neighbours below p, and the column those above. Assumes nothing.
-use native.Mathlib.Omega.{arith}
+-- `ego::neighbours::neighbours_of` meets its contract: the members of p's row. Assumes nothing.
 use borrow.Author.Needs.{needs}
-use Rattle.packed.proofs.PairLaws.{room-mono}
+use denote.Ref.{now}
+use Rattle.ego.proofs.FoundLaws.{found-is}
 use Rattle.ego.proofs.neighbours.neighbours_of.Statement.{statement}
 use Rattle.ego.proofs.neighbours.neighbours_of.Tie as tie
 
-neighbours-below-requires : tie.Need-neighbours-below-requires
-neighbours-below-requires c κs = room-mono (omega arith) (c .before .pre .1)
-
-neighbours-above-requires : tie.Need-neighbours-above-requires
-neighbours-above-requires c κs = search needs
-
 returns : tie.Need-returns
-returns c = search needs
+returns c =
+    let s = c .before .before .before .before .before in
+    found-is (now (s .args .edges)) (s .args .n) (s .args .p) (s .pre .1 .few) (c .before .before .before .row-of .ensures) (c .before .append .ensures)
 
 pub neighbours-of-spec : {M : Type 1} → statement M
-neighbours-of-spec = tie.close (tie.spec neighbours-below-requires neighbours-above-requires returns)
+neighbours-of-spec = tie.close (tie.spec (λ c κs. search needs) (λ c. search needs) (λ c κs. search needs) returns)

@@ -1,7 +1,7 @@
 -- `ego::share::shares` meets its contract: the checker computes the table. Assumes nothing.
 use mathlib.Core.Path.{refl}
 use Rattle.arith.specs.Sums.{tabulate}
-use Rattle.ego.specs.Words.{shareTable}
+use Rattle.ego.specs.inside.Words.{shareTable}
 use Rattle.ego.proofs.share.shares.Statement.{statement}
 use Rattle.ego.proofs.share.shares.Tie as tie
 

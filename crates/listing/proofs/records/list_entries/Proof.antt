@@ -1,6 +1,7 @@
--- `listing::records::list_entries` meets its contract: a walk of its MIR, by hand, with two calls and a loop. `gather` runs the list and returns a table, by value: the figures, the marks and the scratch are
--- given up to it for good, and what it says of their last values is what is said here. The borrow of the entries is opened once, before the loop, and closed once, after it; a turn calls `row` on the
--- table and stores what it returned. A table is plain data: what it owns is had for nothing (`owned`), so no turn carries it. Assumes nothing.
+-- `listing::records::list_entries` meets its contract: a walk of its MIR, by hand, with two calls and a loop. `gather` runs the list and returns
+-- a table, by value: the figures, the marks and the scratch are given up to it for good, and what it says of their last values is what is said
+-- here. The borrow of the entries is opened once, before the loop, and closed once, after it; a turn calls `table_entry` on the table and stores what it
+-- returned. A table is plain data: what it owns is had for nothing (`owned`), so no turn carries it. Assumes nothing.
 use mathlib.Core.Path.{_≡_, refl, sym, _∙_, ap, subst}
 use Prim.Native.Nat.{ℕ, zero, suc, _+_, _*_, _<_, _^_}
 use native.Mathlib.Nat.{le-refl, lt-of-lt-of-le}
@@ -51,9 +52,11 @@ use denote.Triple.Spec.{Meets, tripleOf}
 use denote.Triple.Table.{entered, cited}
 use denote.Triple.Walked.{says, Stays, stay-slice, gave-slice, stay-none-slice, walkOf, goes-slice, goes-gave-slice, goes-none-slice, Walks, ends-at, walked, walk-meets}
 use denote.Exit.{yes}
-use Rattle.state.specs.Outcome.{state}
+use Rattle.state.specs.State.{state}
 use Rattle.topk.specs.Entries.{entry}
-use Rattle.listing.specs.Records.{entriesCall, entryIn, Gathered, recording, rows}
+use Rattle.topk.specs.List.{listing}
+use Rattle.listing.specs.Records.{entriesCall}
+use Rattle.listing.specs.inside.Table.{entryIn, Gathered, rows}
 use Rattle.topk.specs.declared.entries.Entry.{Entry}
 use Rattle.listing.specs.declared.records.Table.{Table}
 use Rattle.listing.proofs.RecordLaws.{upto, upto-laid, upto-length}
@@ -67,10 +70,10 @@ use Rattle.listing.proofs.records.gather as gather′
 use Rattle.listing.proofs.records.gather.Symbol as gather-def
 use Rattle.listing.proofs.records.gather.Symbol.{name as #listing·gather}
 use Rattle.listing.proofs.records.gather.Met as gather-thm
-use Rattle.listing.proofs.records.row as row′
-use Rattle.listing.proofs.records.row.Symbol as row-def
-use Rattle.listing.proofs.records.row.Symbol.{name as #listing·row}
-use Rattle.listing.proofs.records.row.Met as row-thm
+use Rattle.listing.proofs.records.table_entry as table-entry′
+use Rattle.listing.proofs.records.table_entry.Symbol as table-entry-def
+use Rattle.listing.proofs.records.table_entry.Symbol.{name as #listing·table-entry}
+use Rattle.listing.proofs.records.table_entry.Met as table-entry-thm
 use Rattle.listing.proofs.records.list_entries.Key.{name as #listing·list-entries}
 use Rattle.listing.proofs.records.list_entries as list-entries
 use Rattle.listing.proofs.records.list_entries.Statement as stated
@@ -126,10 +129,11 @@ abbrev entTy : Ty
 entTy = spell piece.table (pointee (T.the-row .written))
 
 abbrev stayed : Stays (list-entries.ended .signature .params) (list-entries.ended .kept)
-stayed = (
-  stay-none-slice (0 ∷ []) tt (plain (λ _. u8)) yes,
-  (gave-slice (1 ∷ []) tt (plain (λ _. u64)), (gave-slice (2 ∷ []) tt (plain (λ _. u8)), (stay-slice (3 ∷ []) tt (plain (λ _. R)), (gave-slice (4 ∷ []) tt (plain (λ _. u8)), tt)))),
-)
+stayed =
+    let b = plain (λ _. u8) in
+    let w = plain (λ _. u64) in
+    let r = plain (λ _. R) in
+    (stay-none-slice (0 ∷ []) tt b yes, (gave-slice (1 ∷ []) tt w, (gave-slice (2 ∷ []) tt b, (stay-slice (3 ∷ []) tt r, (gave-slice (4 ∷ []) tt b, tt)))))
 
 abbrev none : Entry
 none = entry 0 0
@@ -146,11 +150,11 @@ module _ {M : Type 1} (𝓤 : URA M) (H : Heap 𝓤) (A : Atoms 𝓤) (mem : Mem
   abbrev Gather : Contract 𝓤
   Gather = tripleOf 𝓤 H A gather′.signature (gather′.spec 𝓤 H A mem run)
 
-  abbrev Row : Contract 𝓤
-  Row = tripleOf 𝓤 H A row′.signature (row′.spec 𝓤 H A mem run)
+  abbrev TableEntry : Contract 𝓤
+  TableEntry = tripleOf 𝓤 H A table-entry′.signature (table-entry′.spec 𝓤 H A mem run)
 
-module _ {M : Type 1} (𝓤 : URA M) (H : Heap 𝓤) (A : Atoms 𝓤) (W : Given 𝓤 H A) (at-mem : Memory → SProp 𝓤) (run : Routine → Fun 𝓤) (κ₀ κ₁ κ₂ κ₃ κ₄ : Lft) (q₀ q₁ q₂ q₃ q₄ : Share)
-    (b o : ℕ) (γ : GName) (xs : List Entry) (x₀ x₁ x₂ x₄ : RefT (List ℕ)) where
+module _ {M : Type 1} (𝓤 : URA M) (H : Heap 𝓤) (A : Atoms 𝓤) (W : Given 𝓤 H A) (at-mem : Memory → SProp 𝓤) (run : Routine → Fun 𝓤) (κ₀ κ₁ κ₂ κ₃ κ₄ : Lft)
+    (q₀ q₁ q₂ q₃ q₄ : Share) (b o : ℕ) (γ : GName) (xs : List Entry) (x₀ x₁ x₂ x₄ : RefT (List ℕ)) where
   abbrev n : ℕ
   n = length xs
 
@@ -164,6 +168,19 @@ module _ {M : Type 1} (𝓤 : URA M) (H : Heap 𝓤) (A : Atoms 𝓤) (W : Given
   abbrev a : Arg
   a = (x₀, (x₁, (x₂, (x xs, (x₄, tt)))))
 
+  -- the lifetimes and their shares, and those that `gather` is passed
+  abbrev lives : Lft × (Lft × (Lft × (Lft × (Lft × Unit {0}))))
+  lives = (κ₀, (κ₁, (κ₂, (κ₃, (κ₄, tt)))))
+
+  abbrev shares : Share × (Share × (Share × (Share × (Share × Unit {0}))))
+  shares = (q₀, (q₁, (q₂, (q₃, (q₄, tt)))))
+
+  abbrev passedLives : Lft × (Lft × (Lft × (Lft × Unit {0})))
+  passedLives = (κ₀, (κ₁, (κ₂, (κ₄, tt))))
+
+  abbrev passedShares : Share × (Share × (Share × (Share × Unit {0})))
+  passedShares = (q₀, (q₁, (q₂, (q₄, tt))))
+
   -- the machine values
   abbrev s : Val
   s = sliceVal (b, o) n
@@ -176,7 +193,7 @@ module _ {M : Type 1} (𝓤 : URA M) (H : Heap 𝓤) (A : Atoms 𝓤) (W : Given
 
   abbrev Post : Val → SProp 𝓤
   Post = walkOf 𝓤 H A list-entries.ended stayed (list-entries.clauses 𝓤 H A at-mem run) .post
-      (((κ₀, (κ₁, (κ₂, (κ₃, (κ₄, tt))))), (q₀, (q₁, (q₂, (q₃, (q₄, tt))))), tt, a, vals), tt)
+      ((lives, shares, tt, a, vals), tt)
 
   -- what the edges own; what the figures, the marks and the scratch own; the tokens of these four
   abbrev Shr : Fml
@@ -195,7 +212,7 @@ module _ {M : Type 1} (𝓤 : URA M) (H : Heap 𝓤) (A : Atoms 𝓤) (W : Given
   Tok = ‵ (flft κ₀ q₀) ⊛ ‵ (flft κ₁ q₁) ⊛ ‵ (flft κ₂ q₂) ⊛ ‵ (flft κ₄ q₄) ⊛ ‵ ftrue
 
   -- what `gather` is passed
-  abbrev passed : Vals gather′.signature (κ₀, (κ₁, (κ₂, (κ₄, tt))))
+  abbrev passed : Vals gather′.signature passedLives
   passed = (v x₀ ∷ [], (v x₁ ∷ [], (v x₂ ∷ [], (v x₄ ∷ [], (vint w64 n ∷ [], tt)))))
 
   abbrev Given′ : Type 0
@@ -205,7 +222,7 @@ module _ {M : Type 1} (𝓤 : URA M) (H : Heap 𝓤) (A : Atoms 𝓤) (W : Given
   given′ = (x₀, (x₁, (x₂, (x₄, (n, tt)))))
 
   abbrev to-gather : Gather 𝓤 H A at-mem run .Ghost
-  to-gather = (((κ₀, (κ₁, (κ₂, (κ₄, tt)))), (q₀, (q₁, (q₂, (q₄, tt)))), tt, given′, passed), tt)
+  to-gather = ((passedLives, passedShares, tt, given′, passed), tt)
 
   -- what these own gives what `gather` asks; of the edges a copy is kept
   apart : n < 2 ^ 64 → ent 𝓤 (⋆ 𝓤 H A (‵ (fsep (fsep (fsep Shr Fig) Mar) Scr) ∷ Tok ∷ [])) (sep 𝓤 (Gather 𝓤 H A at-mem run .pre to-gather) (sem 𝓤 H A Shr))
@@ -213,12 +230,14 @@ module _ {M : Type 1} (𝓤 : URA M) (H : Heap 𝓤) (A : Atoms 𝓤) (W : Given
       qed W (‵ (fsep (fsep (fsep Shr Fig) Mar) Scr) ∷ Tok ∷ []) ∵ fsplit ! $ fsplit ! $ fsplit ! $
       use1 W (‵ Shr ⊛ ‵ Shr) (shr-slice-copy 𝓤 H A W (named 0) κ₀ u8 .twice x₀ (v x₀ ∷ [])) $ split ! $
       -- [the edges; the edges; the figures; the marks; the scratch; the tokens]
-      nothing ! $ owned ! usize (Is usize) (uint-makes 𝓤 H A W w64) n _ (refl, fits) $ fjoin ! $ move ! (5 ∷ 0 ∷ []) $ fjoin ! $ move ! (4 ∷ 0 ∷ []) $ fjoin ! $ move ! (3 ∷ 0 ∷ []) $ fjoin ! $
-      move ! (1 ∷ 0 ∷ []) $ fjoin ! $ move ! (2 ∷ 0 ∷ []) $ use2 W (raw (Gather 𝓤 H A at-mem run .pre to-gather)) asked $ frame ! $ done !
+      nothing ! $ owned ! usize (Is usize) (uint-makes 𝓤 H A W w64) n _ (refl, fits) $ fjoin ! $ move ! (5 ∷ 0 ∷ []) $ fjoin ! $ move ! (4 ∷ 0 ∷ []) $
+      fjoin ! $ move ! (3 ∷ 0 ∷ []) $ fjoin ! $ move ! (1 ∷ 0 ∷ []) $ fjoin ! $ move ! (2 ∷ 0 ∷ []) $
+      use2 W (raw (Gather 𝓤 H A at-mem run .pre to-gather)) asked $ frame ! $ done !
     where
-      asked : ent 𝓤 (onEntry 𝓤 H A gather′.signature (κ₀, (κ₁, (κ₂, (κ₄, tt)))) (q₀, (q₁, (q₂, (q₄, tt)))) given′ passed) (Gather 𝓤 H A at-mem run .pre to-gather)
+      asked : ent 𝓤 (onEntry 𝓤 H A gather′.signature passedLives passedShares given′ passed) (Gather 𝓤 H A at-mem run .pre to-gather)
       asked =
-          qed W (Tok ∷ ‵ (owns (ShrSlice (named 0) κ₀ u8 ∷ MutSlice (named 1) κ₁ u64 ∷ MutSlice (named 2) κ₂ u8 ∷ MutSlice (named 3) κ₄ u8 ∷ usize ∷ []) given′ passed) ∷ []) ∵
+          qed W (Tok ∷ ‵ (owns (ShrSlice (named 0) κ₀ u8 ∷ MutSlice (named 1) κ₁ u64 ∷ MutSlice (named 2) κ₂ u8 ∷ MutSlice (named 3) κ₄ u8 ∷ usize
+          ∷ []) given′ passed) ∷ []) ∵
           join ! $ frame ! $ done !
 
   -- the last figures, marks and scratch, as `gather` leaves them
@@ -229,7 +248,8 @@ module _ {M : Type 1} (𝓤 : URA M) (H : Heap 𝓤) (A : Atoms 𝓤) (W : Given
   Says t zs = Gathered (state (x₀ .now) (x₁ .now) (x₂ .now)) (x₄ .now) n t (state (x₀ .now) (zs .1 .0) (zs .1 .1 .0)) (zs .1 .1 .1 .0)
 
   -- ---- with the table that `gather` returned, and the last values that it left
-  module _ (t : Table) (is-t : Is Tab.the-row t (whole-val t ∷ [])) (F M′ C′ : List ℕ) (e₁ : length F ≡ length (x₁ .now)) (e₂ : length M′ ≡ length (x₂ .now)) (e₄ : length C′ ≡ length (x₄ .now))
+  module _ (t : Table) (is-t : Is Tab.the-row t (whole-val t ∷ [])) (F M′ C′ : List ℕ) (e₁ : length F ≡ length (x₁ .now))
+      (e₂ : length M′ ≡ length (x₂ .now)) (e₄ : length C′ ≡ length (x₄ .now))
       (G : Gathered (state (x₀ .now) (x₁ .now) (x₂ .now)) (x₄ .now) n t (state (x₀ .now) F M′) C′) where
     abbrev ys : ℕ → List Entry
     ys i = upto (t .numbers) xs i
@@ -237,41 +257,55 @@ module _ {M : Type 1} (𝓤 : URA M) (H : Heap 𝓤) (A : Atoms 𝓤) (W : Given
     abbrev Fins : List (Item 𝓤)
     Fins = ‵ (finally u64 (x₁ .name) F) ∷ ‵ (finally u8 (x₂ .name) M′) ∷ ‵ (finally u8 (x₄ .name) C′) ∷ []
 
-    -- of `row`'s `ensured`, the clause alone
-    rowed : (i : ℕ) (r : Entry) → ent 𝓤 (ensured 𝓤 H A row′.ended (row′.clauses 𝓤 H A at-mem run) tt (t, (i, tt)) tt r) (fact 𝓤 (r ≡ entryIn (t .numbers) i))
-    rowed i r = exE 𝓤 _ (λ ws. snd∗ 𝓤 (sem 𝓤 H A (lasts row′.ended tt (t, (i, tt)) ws)) (fact 𝓤 (r ≡ entryIn (t .numbers) i)))
+    -- of `table_entry`'s `ensured`, the clause alone
+    entry-read : (i : ℕ) (r : Entry) → ent 𝓤 (ensured 𝓤 H A table-entry′.ended (table-entry′.clauses 𝓤 H A at-mem run) tt (t, (i, tt)) tt r)
+        (fact 𝓤 (r ≡ entryIn (t .numbers) i))
+    entry-read i r = exE 𝓤 _ (λ ws. snd∗ 𝓤 (sem 𝓤 H A (lasts table-entry′.ended tt (t, (i, tt)) ws)) (fact 𝓤 (r ≡ entryIn (t .numbers) i)))
 
-    abbrev to-row : ℕ → Row 𝓤 H A at-mem run .Ghost
-    to-row i = ((tt, tt, tt, (t, (i, tt)), (whole-val t ∷ [], (vint w64 i ∷ [], tt))), tt)
+    abbrev to-entry : ℕ → TableEntry 𝓤 H A at-mem run .Ghost
+    to-entry i = ((tt, tt, tt, (t, (i, tt)), (whole-val t ∷ [], (vint w64 i ∷ [], tt))), tt)
 
     -- a table and a number are had for nothing
-    asks-row : (i : ℕ) → i < 2 ^ 64 → i < rows → ent 𝓤 (emp 𝓤) (Row 𝓤 H A at-mem run .pre (to-row i))
-    asks-row i fits small =
+    asks-entry : (i : ℕ) → i < 2 ^ 64 → i < rows → ent 𝓤 (emp 𝓤) (TableEntry 𝓤 H A at-mem run .pre (to-entry i))
+    asks-entry i fits small =
         qed W [] ∵ says ! small $ nothing ! $ owned ! usize (Is usize) (uint-makes 𝓤 H A W w64) i _ (refl, fits) $ fjoin ! $
         owned ! Tab.the-row (Is Tab.the-row) (LL.makes Tab.the-type Tab′.the-plain 𝓤 H A) t _ is-t $ fjoin ! $ nothing ! $ done !
 
-    exits : Room R n
-        → ent 𝓤 (⋆ 𝓤 H A (‵ (fobs γ (codedHoleys R .code (heres R (ys (t .used))))) ∷ ‵ (fbor κ₃ (Held R (length (ys (t .used))) b o γ)) ∷ ‵ (flft κ₃ q₃) ∷ ‵ Shr ∷ Tok ∷ Fins)) (Post (res t))
+    -- the entries' borrow closed at what is written, and the rest
+    abbrev Closed : List (Item 𝓤)
+    Closed =
+        ‵ (fobs γ (codedHoleys R .code (heres R (ys (t .used))))) ∷ ‵ (fbor κ₃ (Held R (length (ys (t .used))) b o γ)) ∷ ‵ (flft κ₃ q₃) ∷ ‵ Shr ∷ Tok ∷ Fins
+
+    exits : Room R n → ent 𝓤 (⋆ 𝓤 H A Closed) (Post (res t))
     exits room =
-        qed W (‵ (fobs γ (codedHoleys R .code (heres R (ys (t .used))))) ∷ ‵ (fbor κ₃ (Held R (length (ys (t .used))) b o γ)) ∷ ‵ (flft κ₃ q₃) ∷ ‵ Shr ∷ Tok ∷ Fins) ∵
+        qed W Closed ∵
         suffices ! _ (ends-at 𝓤 H A list-entries.ended stayed (list-entries.clauses 𝓤 H A at-mem run) W
-        (((κ₀, (κ₁, (κ₂, (κ₃, (κ₄, tt))))), (q₀, (q₁, (q₂, (q₃, (q₄, tt))))), tt, a, vals), tt) (res t) (t .answer) (tt, (F, (M′, (ys (t .used), (C′, tt))))) (tt, (e₁, (e₂, (e, (e₄, tt)))))) $ says ! lists $
+        ((lives, shares, tt, a, vals), tt) (res t) (t .answer) (tt, (F, (M′, (ys (t .used), (C′, tt))))) (tt, (e₁, (e₂, (e, (e₄, tt)))))) $ says ! lists $
         -- the tokens, in the order of the parameters
-        move ! (4 ∷ []) $ split ! $ move ! (1 ∷ []) $ split ! $ move ! (1 ∷ []) $ split ! $ move ! (6 ∷ 1 ∷ []) $ join ! $ move ! (1 ∷ 0 ∷ []) $ join ! $ move ! (1 ∷ 0 ∷ []) $ join ! $ move ! (1 ∷ 0 ∷ []) $ join ! $ frame ! $
+        move ! (4 ∷ []) $ split ! $ move ! (1 ∷ []) $ split ! $ move ! (1 ∷ []) $ split ! $ move ! (6 ∷ 1 ∷ []) $ join ! $ move ! (1 ∷ 0 ∷ []) $ join ! $
+        move ! (1 ∷ 0 ∷ []) $ join ! $ move ! (1 ∷ 0 ∷ []) $ join ! $ frame ! $
         -- [obs; the borrow; the edges; the last figures; the last marks; the last scratch]
-        fjoin ! $ pureI ! (at-slice R (x (ys (t .used))) (s ∷ [])) (tt, (tt, tt)) (ap (λ (m : ℕ). sliceVal (b, o) m ∷ []) (sym e), subst (Room R) (sym e) room) $ fjoin ! $
-        nothing ! $ move ! (5 ∷ 0 ∷ []) $ fjoin ! $ move ! (1 ∷ 0 ∷ []) $ fjoin ! $ move ! (3 ∷ 0 ∷ []) $ fjoin ! $ move ! (2 ∷ 0 ∷ []) $ fjoin ! $ move ! (1 ∷ 0 ∷ []) $ fjoin ! $
-        owned ! Ans.the-row (Is Ans.the-row) (LL.makes Ans.the-type Ans′.the-plain 𝓤 H A) (t .answer) _ (LL.owed Tab.the-type Tab′.the-laws t _ is-t .0) $ move ! (1 ∷ 0 ∷ []) $ done !
+        fjoin ! $ pureI ! (at-slice R (x (ys (t .used))) (s ∷ [])) (tt, (tt, tt)) (at-e, subst (Room R) (sym e) room) $ fjoin ! $ nothing ! $
+        move ! (5 ∷ 0 ∷ []) $ fjoin ! $ move ! (1 ∷ 0 ∷ []) $ fjoin ! $ move ! (3 ∷ 0 ∷ []) $ fjoin ! $ move ! (2 ∷ 0 ∷ []) $ fjoin ! $ move ! (1 ∷ 0 ∷ []) $
+        fjoin ! $
+        owned ! Ans.the-row (Is Ans.the-row) (LL.makes Ans.the-type Ans′.the-plain 𝓤 H A) (t .answer) _ (LL.owed Tab.the-type Tab′.the-laws t _ is-t .0) $
+        move ! (1 ∷ 0 ∷ []) $ done !
       where
         e : length (ys (t .used)) ≡ n
         e = upto-length (t .numbers) xs (t .used)
 
-        lists : recording (t .answer .refusal) (t .answer .recomputed) (state (x₀ .now) F M′) (ys (t .used)) C′ ≡ entriesCall (state (x₀ .now) (x₁ .now) (x₂ .now)) xs (x₄ .now)
+        at-e : s ∷ [] ≡ sliceVal (b, o) (length (ys (t .used))) ∷ []
+        at-e = ap (λ (m : ℕ). sliceVal (b, o) m ∷ []) (sym e)
+
+        lists : listing (t .answer .refusal) (t .answer .recomputed) (state (x₀ .now) F M′) (ys (t .used)) C′ ≡ entriesCall
+            (state (x₀ .now) (x₁ .now) (x₂ .now)) xs (x₄ .now)
         lists =
-            ap (λ (l : List Entry). recording (t .answer .refusal) (t .answer .recomputed) (state (x₀ .now) F M′) l C′) (upto-laid (t .numbers) xs (t .used) (G .fits))
+            ap (λ (l : List Entry). listing (t .answer .refusal) (t .answer .recomputed) (state (x₀ .now) F M′) l C′)
+            (upto-laid (t .numbers) xs (t .used) (G .fits))
             ∙ G .lists xs refl
 
-    module _ (𝓣 : Tables 𝓤 H) (known : Triple 𝓤 (𝓣 .C #listing·row) (Row 𝓤 H A at-mem run)) (g : Room R n) (l₀ l₁ l₂ l₃ l₄ l₅ l₆ l₇ l₈ l₉ l₁₀ l₁₁ l₁₂ l₁₃ l₁₄ l₁₅ l₁₆ l₁₇ l₁₈ l₁₉ : ℕ) where
+    module _ (𝓣 : Tables 𝓤 H) (known : Triple 𝓤 (𝓣 .C #listing·table-entry) (TableEntry 𝓤 H A at-mem run)) (g : Room R n)
+        (l₀ l₁ l₂ l₃ l₄ l₅ l₆ l₇ l₈ l₉ l₁₀ l₁₁ l₁₂ l₁₃ l₁₄ l₁₅ l₁₆ l₁₇ l₁₈ l₁₉ : ℕ) where
       abbrev C : Calls 𝓤 H
       C = 𝓣 .C
 
@@ -279,16 +313,28 @@ module _ {M : Type 1} (𝓤 : URA M) (H : Heap 𝓤) (A : Atoms 𝓤) (W : Given
       Λ = 𝓣 .Λ
 
       abbrev En : Env 𝓤 H
-      En = (ansTy, l₀) ∷ (edgesTy, l₁) ∷ (figuresTy, l₂) ∷ (marksTy, l₃) ∷ (entriesTy, l₄) ∷ (scratchTy, l₅) ∷ (tabTy, l₆) ∷ (word, l₇) ∷ (word, l₈) ∷ (wordRef, l₉) ∷ (words, l₁₀) ∷ (byteRef, l₁₁) ∷ (bytes, l₁₂) ∷ (byteRef, l₁₃) ∷ (bytes, l₁₄) ∷ (word, l₁₅) ∷ (tyBool, l₁₆) ∷ (entTy, l₁₇) ∷ (word, l₁₈) ∷ (tyPtr, l₁₉) ∷ []
+      En =
+          (ansTy, l₀) ∷ (edgesTy, l₁) ∷ (figuresTy, l₂) ∷ (marksTy, l₃) ∷ (entriesTy, l₄) ∷ (scratchTy, l₅) ∷ (tabTy, l₆) ∷ (word, l₇) ∷ (word, l₈)
+          ∷ (wordRef, l₉) ∷ (words, l₁₀) ∷ (byteRef, l₁₁) ∷ (bytes, l₁₂) ∷ (byteRef, l₁₃) ∷ (bytes, l₁₄) ∷ (word, l₁₅) ∷ (tyBool, l₁₆) ∷ (entTy, l₁₇)
+          ∷ (word, l₁₈) ∷ (tyPtr, l₁₉) ∷ []
+
+      -- each local dies at the end
+      abbrev dying : Env 𝓤 H → List (Item 𝓤)
+      dying [] = []
+      dying (x ∷ xs) = ‵ (fdies (x .0) (x .1)) ∷ dying xs
 
       -- i entries are written
       abbrev At : ℕ → List (Item 𝓤)
-      At i = ‵ (row R fullShare (ys i) b o) ∷ ‵ (fat fullShare word l₈ 0 (vint w64 i)) ∷ ‵ (froom tyBool l₁₆ 0) ∷ ‵ (froom entTy l₁₇ 0) ∷ ‵ (froom word l₁₈ 0) ∷ ‵ (froom tyPtr l₁₉ 0)
+      At i =
+          ‵ (row R fullShare (ys i) b o) ∷ ‵ (fat fullShare word l₈ 0 (vint w64 i)) ∷ ‵ (froom tyBool l₁₆ 0) ∷ ‵ (froom entTy l₁₇ 0) ∷ ‵ (froom word l₁₈ 0)
+          ∷ ‵ (froom tyPtr l₁₉ 0)
           ∷ ‵ (fat fullShare entriesTy l₄ 0 s) ∷ ‵ (fat fullShare tabTy l₆ 0 (whole-val t)) ∷ ‵ (fat fullShare word l₇ 0 (vint w64 (t .used))) ∷ ‵ Shr ∷ Tok
           ∷ ‵ (finally u64 (x₁ .name) F) ∷ ‵ (finally u8 (x₂ .name) M′) ∷ ‵ (finally u8 (x₄ .name) C′)
           ∷ ‵ (fobor κ₃ q₃ (Held R n b o γ)) ∷ ‵ (fobs γ (codedHoleys R .code (heres R xs))) ∷ ‵ (fauth γ (codedHoleys R .code (heres R xs)))
-          ∷ ‵ (froom ansTy l₀ 0) ∷ ‵ (froom edgesTy l₁ 0) ∷ ‵ (froom figuresTy l₂ 0) ∷ ‵ (froom marksTy l₃ 0) ∷ ‵ (froom scratchTy l₅ 0) ∷ ‵ (froom wordRef l₉ 0) ∷ ‵ (froom words l₁₀ 0) ∷ ‵ (froom byteRef l₁₁ 0) ∷ ‵ (froom bytes l₁₂ 0) ∷ ‵ (froom byteRef l₁₃ 0) ∷ ‵ (froom bytes l₁₄ 0) ∷ ‵ (froom word l₁₅ 0)
-          ∷ ‵ (fdies ansTy l₀) ∷ ‵ (fdies edgesTy l₁) ∷ ‵ (fdies figuresTy l₂) ∷ ‵ (fdies marksTy l₃) ∷ ‵ (fdies entriesTy l₄) ∷ ‵ (fdies scratchTy l₅) ∷ ‵ (fdies tabTy l₆) ∷ ‵ (fdies word l₇) ∷ ‵ (fdies word l₈) ∷ ‵ (fdies wordRef l₉) ∷ ‵ (fdies words l₁₀) ∷ ‵ (fdies byteRef l₁₁) ∷ ‵ (fdies bytes l₁₂) ∷ ‵ (fdies byteRef l₁₃) ∷ ‵ (fdies bytes l₁₄) ∷ ‵ (fdies word l₁₅) ∷ ‵ (fdies tyBool l₁₆) ∷ ‵ (fdies entTy l₁₇) ∷ ‵ (fdies word l₁₈) ∷ ‵ (fdies tyPtr l₁₉) ∷ []
+          ∷ ‵ (froom ansTy l₀ 0) ∷ ‵ (froom edgesTy l₁ 0) ∷ ‵ (froom figuresTy l₂ 0) ∷ ‵ (froom marksTy l₃ 0) ∷ ‵ (froom scratchTy l₅ 0)
+          ∷ ‵ (froom wordRef l₉ 0) ∷ ‵ (froom words l₁₀ 0) ∷ ‵ (froom byteRef l₁₁ 0) ∷ ‵ (froom bytes l₁₂ 0) ∷ ‵ (froom byteRef l₁₃ 0)
+          ∷ ‵ (froom bytes l₁₄ 0) ∷ ‵ (froom word l₁₅ 0)
+          ∷ dying En
 
       -- the invariant, where d entries are left
       abbrev Inv : ℕ → SProp 𝓤
@@ -306,30 +352,41 @@ module _ {M : Type 1} (𝓤 : URA M) (H : Heap 𝓤) (A : Atoms 𝓤) (W : Given
       unfolding afterTurn upto
       more i X less k =
           qed W (At i) ∵ exec ! C Λ En piece.turn-1 (anyQ (afterTurn 𝓤 H X Left)) $
-          assigns ! (bin ! (load ! (from ! (stop !)) (look ! 1 refl)) (load ! (from ! (stop !)) (look ! 8 refl)) tt) (from ! (stop !)) (init ! 2 refl (tt, tt)) $
+          assigns ! (bin ! (load ! (from ! (stop !)) (look ! 1 refl)) (load ! (from ! (stop !)) (look ! 8 refl)) tt) (from ! (stop !))
+          (init ! 2 refl (tt, tt)) $
           rewrite ! 2 (λ (c : Bool). ‵ (fat fullShare tyBool l₁₆ 0 (vbool c))) (lt-ltb i (t .used) less) refl $
-          stays ! (load ! (from ! (stop !)) (look ! 2 refl)) $
-          use0 W (raw (Row 𝓤 H A at-mem run .pre (to-row i))) (asks-row i i-fits i-small) $
+          stays ! (load ! (from ! (stop !)) (look ! 2 refl)) $ use0 W (raw (TableEntry 𝓤 H A at-mem run .pre (to-entry i))) (asks-entry i i-fits i-small) $
           -- [what is asked; the entries' row; _8; _16; room for _17; room for _18; room for _19; _4; _6; …]
-          calls-at ! (fmOf 𝓤 H (W .laws) 𝓣) (Row 𝓤 H A at-mem run) known (to-row i) (and-then ! (load ! (from ! (stop !)) (look ! 8 refl)) (and-then ! (load ! (from ! (stop !)) (look ! 2 refl)) (no-more !))) (λ u.
-          use1 W (later (some (λ (r : Entry). (‵ ftrue ⊛ ‵ (R .own r (u ∷ []))) ⊛ raw (ensured 𝓤 H A row′.ended (row′.clauses 𝓤 H A at-mem run) tt (t, (i, tt)) tt r)))) (id⊢ 𝓤 _) $ await ! tt $ pick ! (λ r.
-          split ! $ move ! (1 ∷ []) $ use1 W (raw (fact 𝓤 (r ≡ entryIn (t .numbers) i))) (rowed i r) $ heard ! (r ≡ entryIn (t .numbers) i) (λ e. split ! $ drop ! $
+          calls-at ! (fmOf 𝓤 H (W .laws) 𝓣) (TableEntry 𝓤 H A at-mem run) known (to-entry i) (and-then ! (load ! (from ! (stop !)) (look ! 8 refl))
+          (and-then ! (load ! (from ! (stop !)) (look ! 2 refl)) (no-more !))) (λ u.
+          use1 W (later (some (λ (r : Entry). (‵ ftrue ⊛ ‵ (R .own r (u ∷ []))) ⊛ raw
+          (ensured 𝓤 H A table-entry′.ended (table-entry′.clauses 𝓤 H A at-mem run) tt
+          (t, (i, tt)) tt r)))) (id⊢ 𝓤 _) $ await ! tt $ pick ! (λ r.
+          split ! $ move ! (1 ∷ []) $ use1 W (raw (fact 𝓤 (r ≡ entryIn (t .numbers) i))) (entry-read i r) $ heard ! (r ≡ entryIn (t .numbers) i) (λ e. split ! $
+          drop ! $
           -- [the entry; the entries' row; _8; _16; room for _17; room for _18; room for _19; _4; _6; …]
           peeks ! R (Is R) (shows 𝓤 H A R) r (u ∷ []) (λ is.
           land ! (from ! (stop !)) (init ! 4 refl (LL.lawful T.the-type T′.the-laws 𝓤 H A W .typed r _ is .0)) $
-          assigns ! (bin ! (load ! (from ! (stop !)) (look ! 2 refl)) (lit ! tt) (record { fits = bytes-fit })) (from ! (stop !)) (init ! 5 refl (tt, record { fits = bytes-fit })) $
-          assigns ! (bin ! (load ! (from ! (fld ! refl (stop !))) (look-in ! 7 (sub ! 0 refl (whole !)))) (load ! (from ! (stop !)) (look ! 5 refl)) tt) (from ! (stop !)) (init ! 6 refl (tt, tt)) $
+          assigns ! (bin ! (load ! (from ! (stop !)) (look ! 2 refl)) (lit ! tt) (record { fits = bytes-fit })) (from ! (stop !))
+          (init ! 5 refl (tt, record { fits = bytes-fit })) $
+          assigns ! (bin ! (load ! (from ! (fld ! refl (stop !))) (look-in ! 7 (sub ! 0 refl (whole !)))) (load ! (from ! (stop !)) (look ! 5 refl)) tt)
+          (from ! (stop !)) (init ! 6 refl (tt, tt)) $
           rewrite ! 6 (λ (p : ℕ). ‵ (fat fullShare tyPtr l₁₉ 0 (vptr b p))) (sym (place-is 16 o i)) refl $
           -- element i is taken out of the row, stored to, and put back
-          move ! (1 ∷ []) $ elem-out ! R (Is R) (shows 𝓤 H A R) (LL.vals T.the-type T′.the-laws) (LL.tells T.the-type T′.the-laws) fullShare (ys i) i none b o in-row (λ _.
-          use1 W (‵ (fat fullShare T′.mir b (place 16 o i) (LL.val T.the-type T′.the-laws (getD (ys i) i none)))) (W .laws .raw-at fullShare T′.mir b (place 16 o i) (LL.val T.the-type T′.the-laws (getD (ys i) i none))) $
+          move ! (1 ∷ []) $ elem-out ! R (Is R) (shows 𝓤 H A R) (LL.vals T.the-type T′.the-laws) (LL.tells T.the-type T′.the-laws) fullShare
+          (ys i) i none b o in-row (λ _.
+          use1 W (‵ (fat fullShare T′.mir b (place 16 o i) (LL.val T.the-type T′.the-laws (getD (ys i) i none))))
+          (W .laws .raw-at fullShare T′.mir b (place 16 o i) (LL.val T.the-type T′.the-laws (getD (ys i) i none))) $
           -- [entries[i]; what it owns; the others; the entry; _8; _16; _17; _18; _19; _4; …]
-          assigns ! (of-opd ! (load ! (from ! (stop !)) (look ! 6 refl))) (from ! (hop ! (look ! 8 refl) (stop !))) (store ! 0 refl (LL.lawful T.the-type T′.the-laws 𝓤 H A W .typed r _ is .0)) $
+          assigns ! (of-opd ! (load ! (from ! (stop !)) (look ! 6 refl))) (from ! (hop ! (look ! 8 refl) (stop !)))
+          (store ! 0 refl (LL.lawful T.the-type T′.the-laws 𝓤 H A W .typed r _ is .0)) $
           move ! (1 ∷ []) $ drop ! $ use1 W (‵ (cellAt fullShare (R .mir) (u ∷ []) b (place 16 o i))) (W .laws .at-raw fullShare T′.mir b (place 16 o i) u) $
           move ! (0 ∷ 2 ∷ 1 ∷ []) $ elem-put ! R fullShare (ys i) i r (u ∷ []) b o in-row $
-          assigns-last ! (bin ! (load ! (from ! (stop !)) (look ! 1 refl)) (lit ! tt) (record { fits = next-fits })) (from ! (stop !)) (store ! 1 refl (tt, record { fits = next-fits })) $
+          assigns-last ! (bin ! (load ! (from ! (stop !)) (look ! 1 refl)) (lit ! tt) (record { fits = next-fits })) (from ! (stop !))
+          (store ! 1 refl (tt, record { fits = next-fits })) $
           forget ! 2 refl $ forget ! 3 refl $ forget ! 4 refl $ forget ! 5 refl $
-          rewrite ! 1 (λ (j : ℕ). ‵ (fat fullShare word l₈ 0 (vint w64 j))) (add-one i) refl $ rewrite ! 0 (λ (d : Entry). ‵ (row R fullShare (set (ys i) i d) b o)) e refl $ by ! k)))))
+          rewrite ! 1 (λ (j : ℕ). ‵ (fat fullShare word l₈ 0 (vint w64 j))) (add-one i) refl $
+          rewrite ! 0 (λ (d : Entry). ‵ (row R fullShare (set (ys i) i d) b o)) e refl $ by ! k)))))
         where
           small : i < n
           small = lt-of-lt-of-le less (G .fits)
@@ -354,20 +411,27 @@ module _ {M : Type 1} (𝓤 : URA M) (H : Heap 𝓤) (A : Atoms 𝓤) (W : Given
       unfolding afterTurn
       ends X =
           qed W (At (t .used)) ∵ exec ! C Λ En piece.turn-1 (anyQ (afterTurn 𝓤 H X Left)) $
-          assigns ! (bin ! (load ! (from ! (stop !)) (look ! 1 refl)) (load ! (from ! (stop !)) (look ! 8 refl)) tt) (from ! (stop !)) (init ! 2 refl (tt, tt)) $
+          assigns ! (bin ! (load ! (from ! (stop !)) (look ! 1 refl)) (load ! (from ! (stop !)) (look ! 8 refl)) tt) (from ! (stop !))
+          (init ! 2 refl (tt, tt)) $
           rewrite ! 2 (λ (c : Bool). ‵ (fat fullShare tyBool l₁₆ 0 (vbool c))) (le-ltb (t .used) (t .used) (le-refl (t .used))) refl $
           leaves-loop ! (load ! (from ! (stop !)) (look ! 2 refl)) $ exec ! C Λ En piece.t-12 (atRet En Post) $
-          assigns ! (of-opd ! (load ! (from ! (fld ! refl (stop !))) (look-in ! 7 (sub ! 0 refl (whole !))))) (from ! (stop !)) (init ! 17 refl (LL.lawful Ans.the-type Ans′.the-laws 𝓤 H A W .typed (t .answer) _ (LL.owed Tab.the-type Tab′.the-laws t _ is-t .0) .0)) $
+          assigns ! (of-opd ! (load ! (from ! (fld ! refl (stop !))) (look-in ! 7 (sub ! 0 refl (whole !))))) (from ! (stop !))
+          (init ! 17 refl (LL.lawful Ans.the-type Ans′.the-laws 𝓤 H A W .typed (t .answer) _ (LL.owed Tab.the-type Tab′.the-laws t _ is-t .0) .0)) $
           move ! (0 ∷ 14 ∷ 15 ∷ 16 ∷ []) $ closes-slice ! tt R xs (ys (t .used)) (upto-length (t .numbers) xs (t .used)) b o $
-          -- [obs; the borrow; its token; _8; _16; room for _17, _18, _19; _4; _6; _7; the edges; the tokens; the last figures, marks and scratch; _0; room for _1, …; and that each local dies]
+          -- [obs; the borrow; its token; _8; _16; room for _17, _18, _19; _4; _6; _7; the edges; the tokens; the last figures, marks and scratch; _0;
+          -- room for _1, …; and that each local dies]
           returns ! (look ! 16 refl) $ forget ! 3 refl $ forget ! 4 refl $ forget ! 8 refl $ forget ! 9 refl $ forget ! 10 refl $ forget ! 16 refl $
-          move ! (16 ∷ 28 ∷ []) $ free1 ! $ move ! (16 ∷ 27 ∷ []) $ free1 ! $ move ! (16 ∷ 26 ∷ []) $ free1 ! $ move ! (16 ∷ 25 ∷ []) $ free1 ! $ move ! (8 ∷ 24 ∷ []) $ free1 ! $ move ! (15 ∷ 23 ∷ []) $ free1 ! $
-          move ! (8 ∷ 22 ∷ []) $ free1 ! $ move ! (8 ∷ 21 ∷ []) $ free1 ! $ move ! (3 ∷ 20 ∷ []) $ free1 ! $ move ! (12 ∷ 19 ∷ []) $ free1 ! $ move ! (12 ∷ 18 ∷ []) $ free1 ! $ move ! (12 ∷ 17 ∷ []) $ free1 ! $
-          move ! (12 ∷ 16 ∷ []) $ free1 ! $ move ! (12 ∷ 15 ∷ []) $ free1 ! $ move ! (12 ∷ 14 ∷ []) $ free1 ! $ move ! (12 ∷ 13 ∷ []) $ free1 ! $ move ! (3 ∷ 12 ∷ []) $ free1 ! $ move ! (3 ∷ 11 ∷ []) $ free1 ! $
-          move ! (3 ∷ 10 ∷ []) $ free1 ! $ move ! (3 ∷ 9 ∷ []) $ free1 ! $ free0 ! $ by ! (exits g)
+          move ! (16 ∷ 28 ∷ []) $ free1 ! $ move ! (16 ∷ 27 ∷ []) $ free1 ! $ move ! (16 ∷ 26 ∷ []) $ free1 ! $ move ! (16 ∷ 25 ∷ []) $ free1 ! $
+          move ! (8 ∷ 24 ∷ []) $ free1 ! $ move ! (15 ∷ 23 ∷ []) $ free1 ! $ move ! (8 ∷ 22 ∷ []) $ free1 ! $ move ! (8 ∷ 21 ∷ []) $ free1 ! $
+          move ! (3 ∷ 20 ∷ []) $ free1 ! $ move ! (12 ∷ 19 ∷ []) $ free1 ! $ move ! (12 ∷ 18 ∷ []) $ free1 ! $ move ! (12 ∷ 17 ∷ []) $ free1 ! $
+          move ! (12 ∷ 16 ∷ []) $ free1 ! $ move ! (12 ∷ 15 ∷ []) $ free1 ! $ move ! (12 ∷ 14 ∷ []) $ free1 ! $ move ! (12 ∷ 13 ∷ []) $ free1 ! $
+          move ! (3 ∷ 12 ∷ []) $ free1 ! $ move ! (3 ∷ 11 ∷ []) $ free1 ! $ move ! (3 ∷ 10 ∷ []) $ free1 ! $ move ! (3 ∷ 9 ∷ []) $ free1 ! $ free0 ! $
+          by ! (exits g)
 
       enters : (d i : ℕ) → i + d ≡ t .used → ent 𝓤 (⋆ 𝓤 H A (At i)) (Inv d)
-      enters d i e = via 𝓤 (guard 𝓤 (i + d ≡ t .used) (⋆ 𝓤 H A (At i))) (guardI 𝓤 (i + d ≡ t .used) (⋆ 𝓤 H A (At i)) e) (exI 𝓤 (λ (j : ℕ). guard 𝓤 (j + d ≡ t .used) (⋆ 𝓤 H A (At j))) i)
+      enters d i e =
+          via 𝓤 (guard 𝓤 (i + d ≡ t .used) (⋆ 𝓤 H A (At i))) (guardI 𝓤 (i + d ≡ t .used) (⋆ 𝓤 H A (At i)) e)
+          (exI 𝓤 (λ (j : ℕ). guard 𝓤 (j + d ≡ t .used) (⋆ 𝓤 H A (At j))) i)
 
       turn-at : (d i : ℕ) → i + d ≡ t .used → ent 𝓤 (⋆ 𝓤 H A (At i)) (Wp 𝓤 H C Λ En piece.turn-1 (afterTurn 𝓤 H (Below d) Left))
       turn-at zero i e =
@@ -378,7 +442,8 @@ module _ {M : Type 1} (𝓤 : URA M) (H : Heap 𝓤) (A : Atoms 𝓤) (W : Given
           let falls : d < suc d = omega arith in
           let f : suc i + d ≡ t .used = omega arith in
           more i (Below (suc d)) less
-          (via 𝓤 (Inv d) (enters d (suc i) f) (via 𝓤 (guard 𝓤 (d < suc d) (Inv d)) (guardI 𝓤 (d < suc d) (Inv d) falls) (exI 𝓤 (λ (u : ℕ). guard 𝓤 (u < suc d) (Inv u)) d)))
+          (via 𝓤 (Inv d) (enters d (suc i) f) (via 𝓤 (guard 𝓤 (d < suc d) (Inv d)) (guardI 𝓤 (d < suc d) (Inv d) falls)
+          (exI 𝓤 (λ (u : ℕ). guard 𝓤 (u < suc d) (Inv u)) d)))
 
       turns : (d : ℕ) → ent 𝓤 (Inv d) (Wp 𝓤 H C Λ En piece.turn-1 (afterTurn 𝓤 H (Below d) Left))
       turns d = exE 𝓤 (λ (i : ℕ). guard 𝓤 (i + d ≡ t .used) (⋆ 𝓤 H A (At i))) (λ i. guardE 𝓤 (i + d ≡ t .used) (⋆ 𝓤 H A (At i)) (λ e. turn-at d i e))
@@ -389,67 +454,98 @@ module _ {M : Type 1} (𝓤 : URA M) (H : Heap 𝓤) (A : Atoms 𝓤) (W : Given
           via 𝓤 (Inv (t .used)) (enters (t .used) 0 e) (loop-rule 𝓤 H (W .laws) 𝓣 _<_ (Nat·lt-wfRel .wf) En piece.turn-1 Left Inv turns (t .used))
 
   -- the MIR, up to the loop
-  walk : (𝓣 : Tables 𝓤 H) → Triple 𝓤 (𝓣 .C #listing·gather) (Gather 𝓤 H A at-mem run) → Triple 𝓤 (𝓣 .C #listing·row) (Row 𝓤 H A at-mem run)
+  walk : (𝓣 : Tables 𝓤 H) → Triple 𝓤 (𝓣 .C #listing·gather) (Gather 𝓤 H A at-mem run) → Triple 𝓤 (𝓣 .C #listing·table-entry) (TableEntry 𝓤 H A at-mem run)
       → Room u8 (length (x₀ .now)) → Room u64 (length (x₁ .now)) → Room u8 (length (x₂ .now)) → Room R n → Room u8 (length (x₄ .now))
-      → ent 𝓤 (onEntry 𝓤 H A list-entries.signature (κ₀, (κ₁, (κ₂, (κ₃, (κ₄, tt))))) (q₀, (q₁, (q₂, (q₃, (q₄, tt))))) a vals) (WpFn 𝓤 H (𝓣 .C) (𝓣 .Λ) code.function (v x₀ ∷ v x₁ ∷ v x₂ ∷ s ∷ v x₄ ∷ []) Post)
+      → ent 𝓤 (onEntry 𝓤 H A list-entries.signature lives shares a vals) (WpFn 𝓤 H (𝓣 .C) (𝓣 .Λ) code.function (v x₀ ∷ v x₁ ∷ v x₂ ∷ s ∷ v x₄ ∷ []) Post)
   unfolding upto
-  walk 𝓣 known-gather known-row g₀ g₁ g₂ g g₄ =
+  walk 𝓣 known-gather known-entry g₀ g₁ g₂ g g₄ =
       qed W ((‵ (flft κ₀ q₀) ⊛ ‵ (flft κ₁ q₁) ⊛ ‵ (flft κ₂ q₂) ⊛ ‵ (flft κ₃ q₃) ⊛ ‵ (flft κ₄ q₄) ⊛ ‵ ftrue)
-      ∷ ‵ (owns (ShrSlice (named 0) κ₀ u8 ∷ MutSlice (named 1) κ₁ u64 ∷ MutSlice (named 2) κ₂ u8 ∷ MutSlice (named 3) κ₃ R ∷ MutSlice (named 4) κ₄ u8 ∷ []) a vals) ∷ []) ∵
+      ∷ ‵ (owns (ShrSlice (named 0) κ₀ u8 ∷ MutSlice (named 1) κ₁ u64 ∷ MutSlice (named 2) κ₂ u8 ∷ MutSlice (named 3) κ₃ R ∷ MutSlice (named 4) κ₄ u8
+      ∷ []) a vals) ∷ []) ∵
       enter ! (𝓣 .C) (𝓣 .Λ) code.function (v x₀ ∷ v x₁ ∷ v x₂ ∷ s ∷ v x₄ ∷ []) _ $
-      alloc1 ! (λ l₀. alloc1 ! (λ l₁. alloc1 ! (λ l₂. alloc1 ! (λ l₃. alloc1 ! (λ l₄. alloc1 ! (λ l₅. alloc1 ! (λ l₆. alloc1 ! (λ l₇. alloc1 ! (λ l₈. alloc1 ! (λ l₉. alloc1 ! (λ l₁₀. alloc1 ! (λ l₁₁. alloc1 ! (λ l₁₂. alloc1 ! (λ l₁₃. alloc1 ! (λ l₁₄. alloc1 ! (λ l₁₅. alloc1 ! (λ l₁₆. alloc1 ! (λ l₁₇. alloc1 ! (λ l₁₈. alloc1 ! (λ l₁₉. alloc0 ! $ params1 ! $
-      pass1 ! (init ! 36 refl (tt, (tt, (record { fits = g₀ .0 }, tt)))) $ pass1 ! (init ! 34 refl (tt, (tt, (record { fits = g₁ .0 }, tt)))) $ pass1 ! (init ! 32 refl (tt, (tt, (record { fits = g₂ .0 }, tt)))) $
-      pass1 ! (init ! 30 refl (tt, (tt, (record { fits = g .0 }, tt)))) $ pass1 ! (init ! 28 refl (tt, (tt, (record { fits = g₄ .0 }, tt)))) $ pass0 ! $
+      alloc1 ! (λ l₀. alloc1 ! (λ l₁. alloc1 ! (λ l₂. alloc1 ! (λ l₃. alloc1 ! (λ l₄. alloc1 !
+      (λ l₅. alloc1 ! (λ l₆. alloc1 ! (λ l₇. alloc1 ! (λ l₈. alloc1 ! (λ l₉. alloc1 ! (λ l₁₀.
+      alloc1 ! (λ l₁₁. alloc1 ! (λ l₁₂. alloc1 ! (λ l₁₃. alloc1 ! (λ l₁₄. alloc1 ! (λ l₁₅.
+      alloc1 ! (λ l₁₆. alloc1 ! (λ l₁₇. alloc1 ! (λ l₁₈. alloc1 ! (λ l₁₉. alloc0 ! $
+      params1 ! $ pass1 ! (init ! 36 refl (tt, (tt, (record { fits = g₀ .0 }, tt)))) $ pass1 ! (init ! 34 refl (tt, (tt, (record { fits = g₁ .0 }, tt)))) $
+      pass1 ! (init ! 32 refl (tt, (tt, (record { fits = g₂ .0 }, tt)))) $ pass1 ! (init ! 30 refl (tt, (tt, (record { fits = g .0 }, tt)))) $
+      pass1 ! (init ! 28 refl (tt, (tt, (record { fits = g₄ .0 }, tt)))) $ pass0 ! $
       -- [_19; …; _18; …; …; _1; …; room for _0; …; the tokens; what the parameters own]: the figures, the marks and the scratch are lent on
       assigns ! (addr ! (from ! (fld ! refl (hop ! (look-in ! 34 (sub ! 0 refl (whole !))) (stop !))))) (from ! (stop !)) (init ! 20 refl (tt, tt)) $
-      assigns ! (agg ! (and-then ! (load ! (from ! (stop !)) (look ! 20 refl)) (and-then ! (load ! (from ! (fld ! refl (stop !))) (look-in ! 34 (sub ! 1 refl (whole !)))) (no-more !)))) (from ! (stop !)) (init ! 18 refl (tt, (tt, (record { fits = g₁ .0 }, tt)))) $
+      assigns ! (agg ! (and-then ! (load ! (from ! (stop !)) (look ! 20 refl)) (and-then !
+      (load ! (from ! (fld ! refl (stop !))) (look-in ! 34 (sub ! 1 refl (whole !)))) (no-more !)))) (from ! (stop !))
+      (init ! 18 refl (tt, (tt, (record { fits = g₁ .0 }, tt)))) $
       assigns ! (addr ! (from ! (fld ! refl (hop ! (look-in ! 32 (sub ! 0 refl (whole !))) (stop !))))) (from ! (stop !)) (init ! 16 refl (tt, tt)) $
-      assigns ! (agg ! (and-then ! (load ! (from ! (stop !)) (look ! 16 refl)) (and-then ! (load ! (from ! (fld ! refl (stop !))) (look-in ! 32 (sub ! 1 refl (whole !)))) (no-more !)))) (from ! (stop !)) (init ! 14 refl (tt, (tt, (record { fits = g₂ .0 }, tt)))) $
+      assigns ! (agg ! (and-then ! (load ! (from ! (stop !)) (look ! 16 refl)) (and-then !
+      (load ! (from ! (fld ! refl (stop !))) (look-in ! 32 (sub ! 1 refl (whole !)))) (no-more !)))) (from ! (stop !))
+      (init ! 14 refl (tt, (tt, (record { fits = g₂ .0 }, tt)))) $
       assigns ! (addr ! (from ! (fld ! refl (hop ! (look-in ! 28 (sub ! 0 refl (whole !))) (stop !))))) (from ! (stop !)) (init ! 12 refl (tt, tt)) $
-      assigns ! (agg ! (and-then ! (load ! (from ! (stop !)) (look ! 12 refl)) (and-then ! (load ! (from ! (fld ! refl (stop !))) (look-in ! 28 (sub ! 1 refl (whole !)))) (no-more !)))) (from ! (stop !)) (init ! 10 refl (tt, (tt, (record { fits = g₄ .0 }, tt)))) $
-      assigns ! (of-opd ! (load ! (from ! (fld ! refl (stop !))) (look-in ! 30 (sub ! 1 refl (whole !))))) (from ! (stop !)) (init ! 8 refl (tt, record { fits = g .0 })) $
+      assigns ! (agg ! (and-then ! (load ! (from ! (stop !)) (look ! 12 refl)) (and-then !
+      (load ! (from ! (fld ! refl (stop !))) (look-in ! 28 (sub ! 1 refl (whole !)))) (no-more !)))) (from ! (stop !))
+      (init ! 10 refl (tt, (tt, (record { fits = g₄ .0 }, tt)))) $
+      assigns ! (of-opd ! (load ! (from ! (fld ! refl (stop !))) (look-in ! 30 (sub ! 1 refl (whole !))))) (from ! (stop !))
+      (init ! 8 refl (tt, record { fits = g .0 })) $
       move ! (41 ∷ []) $ fsplit ! $ move ! (1 ∷ []) $ fsplit ! $ move ! (1 ∷ []) $ fsplit ! $ move ! (1 ∷ []) $ fsplit ! $ move ! (1 ∷ []) $ fsplit ! $
       -- [the scratch; true; the entries; the marks; the figures; the edges; _19; …; the tokens]
-      move ! (46 ∷ []) $ split ! $ move ! (1 ∷ []) $ split ! $ move ! (1 ∷ []) $ split ! $ move ! (1 ∷ []) $ split ! $
-      move ! (2 ∷ 1 ∷ []) $ join ! $ move ! (2 ∷ 0 ∷ []) $ join ! $ move ! (2 ∷ 0 ∷ []) $ join ! $
+      move ! (46 ∷ []) $ split ! $ move ! (1 ∷ []) $ split ! $ move ! (1 ∷ []) $ split ! $ move ! (1 ∷ []) $ split ! $ move ! (2 ∷ 1 ∷ []) $ join ! $
+      move ! (2 ∷ 0 ∷ []) $ join ! $ move ! (2 ∷ 0 ∷ []) $ join ! $
       -- [the four tokens; the entries' token; the scratch; true; the entries; the marks; the figures; the edges; _19; …]
       move ! (4 ∷ []) $ fsplit ! $ drop ! $ fsplit ! $ move ! (0 ∷ 1 ∷ 3 ∷ []) $ opens-slice ! tt R xs b o $
       -- [the row; the open borrow; obs; auth; the four tokens; the scratch; true; the marks; the figures; the edges; _19; …]
       move ! (9 ∷ 8 ∷ 7 ∷ 5 ∷ 4 ∷ []) $ fjoin ! $ fjoin ! $ fjoin ! $ use2 W (raw (Gather 𝓤 H A at-mem run .pre to-gather) ⊛ ‵ Shr) (apart (g .0)) $ split ! $
       -- [what is asked; the edges; the row; the open borrow; obs; auth; true; _19; …; _18; …]
       calls-at ! (fmOf 𝓤 H (W .laws) 𝓣) (Gather 𝓤 H A at-mem run) known-gather to-gather
-      (and-then ! (load ! (from ! (stop !)) (look ! 43 refl)) (and-then ! (load ! (from ! (stop !)) (look ! 25 refl)) (and-then ! (load ! (from ! (stop !)) (look ! 21 refl)) (and-then ! (load ! (from ! (stop !)) (look ! 17 refl)) (and-then ! (load ! (from ! (stop !)) (look ! 15 refl)) (no-more !)))))) (λ u.
-      use1 W (later (some (λ (t : Table). (Tok ⊛ ‵ (Tab.the-row .own t (u ∷ []))) ⊛ raw (ensured 𝓤 H A gather′.ended (gather′.clauses 𝓤 H A at-mem run) (κ₀, (κ₁, (κ₂, (κ₄, tt)))) given′ tt t)))) (id⊢ 𝓤 _) $ await ! tt $ pick ! (λ t.
-      split ! $ move ! (1 ∷ []) $ use1 W (some (λ (zs : Last). ‵ (lasts gather′.ended (κ₀, (κ₁, (κ₂, (κ₄, tt)))) given′ zs) ⊛ raw (fact 𝓤 (Says t zs)))) (id⊢ 𝓤 _) $ pick ! (λ zs.
+      (and-then ! (load ! (from ! (stop !)) (look ! 43 refl)) (and-then ! (load ! (from ! (stop !)) (look ! 25 refl))
+      (and-then ! (load ! (from ! (stop !)) (look ! 21 refl)) (and-then ! (load ! (from ! (stop !)) (look ! 17 refl))
+      (and-then ! (load ! (from ! (stop !)) (look ! 15 refl)) (no-more !)))))) (λ u.
+      use1 W (later (some (λ (t : Table). (Tok ⊛ ‵ (Tab.the-row .own t (u ∷ []))) ⊛ raw (ensured 𝓤 H A gather′.ended
+      (gather′.clauses 𝓤 H A at-mem run) passedLives given′ tt t)))) (id⊢ 𝓤 _) $ await ! tt $ pick ! (λ t.
+      split ! $ move ! (1 ∷ []) $ use1 W (some (λ (zs : Last). ‵ (lasts gather′.ended passedLives given′ zs) ⊛ raw (fact 𝓤 (Says t zs)))) (id⊢ 𝓤 _) $
+      pick ! (λ zs.
       split ! $ move ! (1 ∷ []) $ heard ! (Says t zs) (λ G. fsplit ! $ drop ! $
       -- the last figures, marks and scratch, each with its length
-      fsplit ! $ fsplit ! $ move ! (1 ∷ []) $ feqL ! (λ e₁. move ! (1 ∷ []) $ fsplit ! $ fsplit ! $ move ! (1 ∷ []) $ feqL ! (λ e₂. move ! (1 ∷ []) $ fsplit ! $ fsplit ! $ move ! (1 ∷ []) $ feqL ! (λ e₄.
+      fsplit ! $ fsplit ! $ move ! (1 ∷ []) $ feqL ! (λ e₁. move ! (1 ∷ []) $ fsplit ! $ fsplit ! $ move ! (1 ∷ []) $
+      feqL ! (λ e₂. move ! (1 ∷ []) $ fsplit ! $ fsplit ! $ move ! (1 ∷ []) $ feqL ! (λ e₄.
       -- [the last scratch; true; the last marks; the last figures; the tokens and the table; the edges; the row; …]
-      move ! (4 ∷ []) $ split ! $ move ! (1 ∷ []) $
-      peeks ! Tab.the-row (Is Tab.the-row) (shows 𝓤 H A Tab.the-row) t (u ∷ []) (λ is.
-      -- [the table; the four tokens; the last scratch; true; the last marks; the last figures; the edges; the row; the open borrow; obs; auth; true; _19; …; room for _0; …]
+      move ! (4 ∷ []) $ split ! $ move ! (1 ∷ []) $ peeks ! Tab.the-row (Is Tab.the-row) (shows 𝓤 H A Tab.the-row) t (u ∷ []) (λ is.
+      -- [the table; the four tokens; the last scratch; true; the last marks; the last figures; the edges; the row; the open borrow; obs; auth; true;
+      -- _19; …; room for _0; …]
       land ! (from ! (stop !)) (init ! 38 refl (LL.lawful Tab.the-type Tab′.the-laws 𝓤 H A W .typed t _ is .0)) $
       rewrite ! 38 (λ (w : Val). ‵ (fat fullShare Tab′.mir l₆ 0 w)) (ap only (LL.tells Tab.the-type Tab′.the-laws t _ is)) refl $
-      assigns ! (of-opd ! (load ! (from ! (fld ! refl (stop !))) (look-in ! 38 (sub ! 1 refl (whole !))))) (from ! (stop !)) (init ! 36 refl (tt, record { fits = LL.owed Tab.the-type Tab′.the-laws t _ is .1 .0 .1 })) $
-      assigns ! (of-opd ! (lit ! tt)) (from ! (stop !)) (init ! 34 refl (tt, record { fits = lit< tt })) $
-      forget ! 48 refl $ forget ! 46 refl $ forget ! 44 refl $ forget ! 40 refl $ forget ! 32 refl $ forget ! 30 refl $ forget ! 28 refl $ forget ! 26 refl $ forget ! 24 refl $ forget ! 22 refl $ forget ! 20 refl $
-      keep ! (7 ∷ 34 ∷ 18 ∷ 16 ∷ 14 ∷ 12 ∷ 42 ∷ 38 ∷ 36 ∷ 6 ∷ 1 ∷ 5 ∷ 4 ∷ 2 ∷ 8 ∷ 9 ∷ 10 ∷ 50 ∷ 48 ∷ 46 ∷ 44 ∷ 40 ∷ 32 ∷ 30 ∷ 28 ∷ 26 ∷ 24 ∷ 22 ∷ 20 ∷ 51 ∷ 49 ∷ 47 ∷ 45 ∷ 43 ∷ 41 ∷ 39 ∷ 37 ∷ 35 ∷ 33 ∷ 31 ∷ 29 ∷ 27 ∷ 25 ∷ 23 ∷ 21 ∷ 19 ∷ 17 ∷ 15 ∷ 13 ∷ []) $
-      by ! (loops t (subst (Is Tab.the-row t) (LL.tells Tab.the-type Tab′.the-laws t _ is) is) (zs .1 .0) (zs .1 .1 .0) (zs .1 .1 .1 .0) e₁ e₂ e₄ G 𝓣 known-row g l₀ l₁ l₂ l₃ l₄ l₅ l₆ l₇ l₈ l₉ l₁₀ l₁₁ l₁₂ l₁₃ l₁₄ l₁₅ l₁₆ l₁₇ l₁₈ l₁₉)))))))))))))))))))))))))))))
+      assigns ! (of-opd ! (load ! (from ! (fld ! refl (stop !))) (look-in ! 38 (sub ! 1 refl (whole !))))) (from ! (stop !))
+      (init ! 36 refl (tt, record { fits = LL.owed Tab.the-type Tab′.the-laws t _ is .1 .0 .1 })) $
+      assigns ! (of-opd ! (lit ! tt)) (from ! (stop !)) (init ! 34 refl (tt, record { fits = lit< tt })) $ forget ! 48 refl $ forget ! 46 refl $
+      forget ! 44 refl $ forget ! 40 refl $ forget ! 32 refl $ forget ! 30 refl $ forget ! 28 refl $ forget ! 26 refl $ forget ! 24 refl $ forget ! 22 refl $
+      forget ! 20 refl $
+      keep ! (7 ∷ 34 ∷ 18 ∷ 16 ∷ 14 ∷ 12 ∷ 42 ∷ 38 ∷ 36 ∷ 6 ∷ 1 ∷ 5 ∷ 4 ∷ 2 ∷ 8 ∷ 9 ∷ 10 ∷ 50 ∷ 48 ∷ 46 ∷ 44 ∷ 40 ∷ 32 ∷ 30 ∷ 28 ∷ 26 ∷ 24 ∷ 22 ∷ 20 ∷ 51
+      ∷ 49 ∷ 47 ∷ 45 ∷ 43 ∷ 41 ∷ 39 ∷ 37 ∷ 35 ∷ 33 ∷ 31 ∷ 29 ∷ 27 ∷ 25 ∷ 23 ∷ 21 ∷ 19 ∷ 17 ∷ 15 ∷ 13 ∷ []) $
+      by ! (loops t (subst (Is Tab.the-row t) (LL.tells Tab.the-type Tab′.the-laws t _ is) is) (zs .1 .0) (zs .1 .1 .0)
+      (zs .1 .1 .1 .0) e₁ e₂ e₄ G 𝓣 known-entry g l₀ l₁ l₂ l₃ l₄ l₅ l₆ l₇ l₈ l₉ l₁₀ l₁₁ l₁₂ l₁₃ l₁₄ l₁₅ l₁₆ l₁₇ l₁₈ l₁₉)))))))))))))))))))))))))))))
 
-module _ {M : Type 1} (𝓤 : URA M) (H : Heap 𝓤) (A : Atoms 𝓤) (W : Given 𝓤 H A) (mem : Memory → SProp 𝓤) (run : Routine → Fun 𝓤) (𝓣 : Tables 𝓤 H) (known-gather : Triple 𝓤 (𝓣 .C #listing·gather) (Gather 𝓤 H A mem run))
-    (known-row : Triple 𝓤 (𝓣 .C #listing·row) (Row 𝓤 H A mem run)) where
+module _ {M : Type 1} (𝓤 : URA M) (H : Heap 𝓤) (A : Atoms 𝓤) (W : Given 𝓤 H A) (mem : Memory → SProp 𝓤) (run : Routine → Fun 𝓤) (𝓣 : Tables 𝓤 H)
+    (known-gather : Triple 𝓤 (𝓣 .C #listing·gather) (Gather 𝓤 H A mem run))
+    (known-entry : Triple 𝓤 (𝓣 .C #listing·table-entry) (TableEntry 𝓤 H A mem run)) where
   list-entries-walks : Walks 𝓤 H A list-entries.ended stayed (WpFn 𝓤 H (𝓣 .C) (𝓣 .Λ) code.function) (list-entries.clauses 𝓤 H A mem run)
   list-entries-walks = walked 𝓤 H A list-entries.ended stayed (list-entries.clauses 𝓤 H A mem run) (WpFn 𝓤 H (𝓣 .C) (𝓣 .Λ) code.function)
       (λ κs. (slice-vals, (slice-vals, (slice-vals, (slice-vals, (slice-vals, tt))))))
-      (λ κs. (shr-slice-tells (named 0) (κs .0) u8, (mut-slice-tells (named 1) (κs .1 .0) u64, (mut-slice-tells (named 2) (κs .1 .1 .0) u8, (mut-slice-tells (named 3) (κs .1 .1 .1 .0) R, (mut-slice-tells (named 4) (κs .1 .1 .1 .1 .0) u8, tt))))))
-      (λ κs qs bounds a g are. via 𝓤 _ (fst∗ 𝓤 _ (emp 𝓤))
-      (walk 𝓤 H A W mem run (κs .0) (κs .1 .0) (κs .1 .1 .0) (κs .1 .1 .1 .0) (κs .1 .1 .1 .1 .0) (qs .0) (qs .1 .0) (qs .1 .1 .0) (qs .1 .1 .1 .0) (qs .1 .1 .1 .1 .0)
-      (a .1 .1 .1 .0 .ptr .0) (a .1 .1 .1 .0 .ptr .1) (a .1 .1 .1 .0 .name) (a .1 .1 .1 .0 .now) (a .0) (a .1 .0) (a .1 .1 .0) (a .1 .1 .1 .1 .0) 𝓣 known-gather known-row
+      (λ κs.
+      let k = κs .1 .1 in
+      let e = shr-slice-tells (named 0) (κs .0) u8 in
+      let m = mut-slice-tells in
+      (e, (m (named 1) (κs .1 .0) u64, (m (named 2) (k .0) u8, (m (named 3) (k .1 .0) R, (m (named 4) (k .1 .1 .0) u8, tt))))))
+      (λ κs qs bounds a g are.
+      let k = κs .1 .1 in
+      let q = qs .1 .1 in
+      let e = a .1 .1 .1 in
+      via 𝓤 _ (fst∗ 𝓤 _ (emp 𝓤))
+      (walk 𝓤 H A W mem run (κs .0) (κs .1 .0) (k .0) (k .1 .0) (k .1 .1 .0) (qs .0) (qs .1 .0) (q .0) (q .1 .0) (q .1 .1 .0)
+      (e .0 .ptr .0) (e .0 .ptr .1) (e .0 .name) (e .0 .now) (a .0) (a .1 .0) (a .1 .1 .0) (e .1 .0) 𝓣 known-gather known-entry
       (are .0 .0 .1) (are .1 .0 .0 .1) (are .1 .1 .0 .0 .1) (are .1 .1 .1 .0 .0 .1) (are .1 .1 .1 .1 .0 .0 .1)))
 
   list-entries-meets : Meets 𝓤 H A list-entries.signature (WpFn 𝓤 H (𝓣 .C) (𝓣 .Λ) code.function) (list-entries.spec 𝓤 H A mem run)
   list-entries-meets = walk-meets 𝓤 H A list-entries.ended stayed W
-      (goes-none-slice 𝓤 H A W 5 (0 ∷ []) tt (plain (λ _. u8)) yes, (goes-gave-slice 𝓤 H A W 5 1 tt (plain (λ _. u64)), (goes-gave-slice 𝓤 H A W 5 2 tt (plain (λ _. u8)), (goes-slice 𝓤 H A W 5 3 tt (plain (λ _. R)), (goes-gave-slice 𝓤 H A W 5 4 tt (plain (λ _. u8)), tt)))))
+      (let b = plain (λ _. u8) in let w = plain (λ _. u64) in let r = plain (λ _. R) in let gave = goes-gave-slice 𝓤 H A W 5 in
+      (goes-none-slice 𝓤 H A W 5 (0 ∷ []) tt b yes, (gave 1 tt w, (gave 2 tt b, (goes-slice 𝓤 H A W 5 3 tt r, (gave 4 tt b, tt))))))
       (list-entries.clauses 𝓤 H A mem run) (WpFn 𝓤 H (𝓣 .C) (𝓣 .Λ) code.function) (WpFn-mono 𝓤 H (W .laws) 𝓣 code.function) list-entries-walks
 
 pub list-entries-spec : {M : Type 1} → stated.statement M
@@ -458,5 +554,6 @@ list-entries-spec 𝓤 H 𝓜 𝓖 𝓡 =
     entered 𝓤 H (tripleOf 𝓤 H (𝓖 .A) list-entries.signature (list-entries.spec 𝓤 H (𝓖 .A) (𝓜 .mem) (𝓡 .run)))
     (tables 𝓤 H 𝓜 𝓡 code.env .C) (tables 𝓤 H 𝓜 𝓡 code.env .Λ) #listing·list-entries code.function (code.unfolded 𝓤 H 𝓜 𝓡)
     (list-entries-meets 𝓤 H (𝓖 .A) (givenOf 𝓤 H 𝓜 𝓖) (𝓜 .mem) (𝓡 .run) (tablesOf 𝓤 H 𝓜 (tables 𝓤 H 𝓜 𝓡 code.env))
-    (cited 𝓤 H (Gather 𝓤 H (𝓖 .A) (𝓜 .mem) (𝓡 .run)) 𝓜 𝓡 code.env #listing·gather gather-def.routine code.calls-listing·records·gather (gather-thm.met 𝓤 H 𝓜 𝓖 𝓡))
-    (cited 𝓤 H (Row 𝓤 H (𝓖 .A) (𝓜 .mem) (𝓡 .run)) 𝓜 𝓡 code.env #listing·row row-def.routine code.calls-listing·records·row (row-thm.met 𝓤 H 𝓜 𝓖 𝓡)))
+    (cited 𝓤 H (Gather 𝓤 H (𝓖 .A) (𝓜 .mem) (𝓡 .run)) 𝓜 𝓡 code.env #listing·gather gather-def.routine code.calls-listing·records·gather
+    (gather-thm.met 𝓤 H 𝓜 𝓖 𝓡))
+    (cited 𝓤 H (TableEntry 𝓤 H (𝓖 .A) (𝓜 .mem) (𝓡 .run)) 𝓜 𝓡 code.env #listing·table-entry table-entry-def.routine code.calls-listing·records·table-entry (table-entry-thm.met 𝓤 H 𝓜 𝓖 𝓡)))

@@ -1,93 +1,94 @@
 -- `merge::reconcile::reconcile` meets its contract. Assumes nothing.
+use mathlib.Core.Bool.{false, true}
+use mathlib.Core.Path.{refl, sym, _∙_, _≡_}
 use borrow.Author.Needs.{needs}
 use denote.Ref.{now}
-use Rattle.merge.proofs.MergeLaws.{steps-reconcile}
-use Rattle.merge.proofs.StepLaws.{accepted-aligned, aligned-kept}
-use Rattle.merge.specs.Reconcile.{reconcileCall}
+use lib.ListN.{length}
 use Rattle.calls.proofs.OutcomeLaws.{call-accepted, call-refused, lengths-refused}
-use Rattle.state.proofs.RefusalLaws.{fitted-by, sized-room}
-use Rattle.state.specs.Outcome.{state}
+use Rattle.state.proofs.RefusalLaws.{Fitted, fitted-by, sized-room}
+use Rattle.state.specs.Lent.{lent}
+use Rattle.state.specs.Refusal.{refusal}
+use Rattle.state.specs.State.{size, State}
+use Rattle.merge.proofs.MergeLaws.{steps-reconcile}
+use Rattle.merge.proofs.Way.{ready-way, way-start-stepped}
+use Rattle.merge.specs.Reconcile.{reconcileCall}
+use Rattle.merge.specs.inside.Steps.{mergeConditions}
 use Rattle.merge.proofs.reconcile.reconcile.Statement.{statement}
 use Rattle.merge.proofs.reconcile.reconcile.Tie as tie
 
-state-refusal-requires : tie.Need-state-refusal-requires
-state-refusal-requires c κs = search needs
+abbrev entry : tie.After-state-refusal → tie.Start
+entry c = c .before .before .before .before .before .before
+
+-- where the lengths have passed, where the degrees are counted, and where the call is refused or not
+abbrev passed : tie.After-reconcile-refusal → tie.Else1
+passed c = c .before .before .before .before
+
+abbrev accepted : tie.After-degrees → tie.Else2
+accepted c = c .before .before .before .before
+
+abbrev removed : tie.After-degrees3 → tie.After-take-all
+removed c = c .before .before .before .before .before .before .before .before .before .before .before
+
+abbrev added : tie.After-degrees4 → tie.After-take-all2
+added c = c .before .before .before .before .before .before .before
+
+abbrev given : tie.Start → State
+given s = lent (s .args .edges) (s .args .figures) (s .args .marks)
+
+fits : (c : tie.Else1) → let s = given (entry (c .before)) in Fitted (size s) (length (s .edges)) (length (s .marks))
+fits c = fitted-by (c .before .state-refusal .ensures) (c .if1 .left)
+
+passes : (c : tie.Else2) → let s = entry (passed (c .before) .before) in
+    refusal (mergeConditions (size (given s)) (given s .edges) (now (s .args .theirs)) (now (s .args .base))) ≡ 0
+passes c = sym (c .before .reconcile-refusal .ensures) ∙ c .if2 .left
 
 returns : tie.Need-returns
 unfolding reconcileCall
-returns c =
-    let s = c .before .before .before .before .before .before .before in
-    lengths-refused (state (now (s .args .edges)) (now (s .args .figures)) (now (s .args .marks))) _ _ (c .before .state-refusal .ensures) (c .if1 .taken)
+returns c = lengths-refused (given (entry (c .before))) _ _ (c .before .state-refusal .ensures) (c .if1 .taken)
+
+degrees-of-requires : tie.Need-degrees-of-requires
+degrees-of-requires c κs = sized-room (fits (c .before) .sizes)
 
 reconcile-refusal-requires : tie.Need-reconcile-refusal-requires
-reconcile-refusal-requires c κs =
-    let f = fitted-by (c .before .before .state-refusal .ensures) (c .before .if1 .left) in
-    sized-room (f .sizes)
-
-same-length : tie.Need-same-length
-same-length c = search needs
+reconcile-refusal-requires c κs = (sized-room (fits (c .before .before .before) .sizes), c .before .degrees-of .ensures)
 
 returns-2 : tie.Need-returns-2
 unfolding reconcileCall
 returns-2 c =
-    let at-if1 = c .before .before .before in
-    let at-state-refusal = at-if1 .before in
-    let s = at-state-refusal .before .before .before .before .before .before in
-    call-refused (state (now (s .args .edges)) (now (s .args .figures)) (now (s .args .marks))) _ _ (fitted-by (at-state-refusal .state-refusal .ensures) (at-if1 .if1 .left)) (c .before .reconcile-refusal .ensures) (c .if2 .taken)
+    let at = passed (c .before) in
+    call-refused (given (entry (at .before))) _ _ (fits at) (c .before .reconcile-refusal .ensures) (c .if2 .taken)
 
 take-all-requires : tie.Need-take-all-requires
 take-all-requires c κs =
-    let at-if2 = c .before .before .before in
-    let at-reconcile-refusal = at-if2 .before in
-    let at-if1 = at-reconcile-refusal .before .before in
-    let at-state-refusal = at-if1 .before in
-    accepted-aligned _ (fitted-by (at-state-refusal .state-refusal .ensures) (at-if1 .if1 .left)) (at-reconcile-refusal .reconcile-refusal .ensures) (at-if2 .if2 .left)
+    let at = accepted c in
+    let s = entry (passed (at .before) .before) in
+    ready-way (given s) (now (s .args .theirs)) (now (s .args .base)) (passes at) (fits (passed (at .before))) false refl
+    (at .before .before .before .degrees-of .ensures)
 
 take-all-requires-2 : tie.Need-take-all-requires-2
 take-all-requires-2 c κs =
-    let at-take-all = c .before .before .before .before .before .before .before .before .before in
-    let at-if2 = at-take-all .before .before .before .before in
-    let at-reconcile-refusal = at-if2 .before in
-    let at-if1 = at-reconcile-refusal .before .before in
-    let at-state-refusal = at-if1 .before in
-    let kept = at-take-all .take-all .kept in
-    aligned-kept (accepted-aligned _ (fitted-by (at-state-refusal .state-refusal .ensures) (at-if1 .if1 .left)) (at-reconcile-refusal .reconcile-refusal .ensures) (at-if2 .if2 .left)) (kept .0) (kept .1 .0) (kept .1 .1 .0)
-
-same-length-2 : tie.Need-same-length-2
-same-length-2 c = search needs
-
-same-length-3 : tie.Need-same-length-3
-same-length-3 c = search needs
-
-same-length-4 : tie.Need-same-length-4
-same-length-4 c = search needs
+    let take = removed c .take-all in
+    let at = accepted (removed c .before) in
+    let s = entry (passed (at .before) .before) in
+    let f = fits (passed (at .before)) in
+    ready-way (given s) (now (s .args .theirs)) (now (s .args .base)) (passes at) f true
+    (take .ensures .0 ∙ way-start-stepped (given s) (now (s .args .theirs)) (now (s .args .base)) f) (take .ensures .1)
 
 returns-3 : tie.Need-returns-3
 unfolding reconcileCall
 returns-3 c =
-    let at-take-all2 = c .before .before .before .before .before .before in
-    let at-take-all = at-take-all2 .before .before .before .before .before .before .before .before .before .before in
-    let at-if2 = at-take-all .before .before .before .before in
-    let at-reconcile-refusal = at-if2 .before in
-    let at-if1 = at-reconcile-refusal .before .before in
-    let at-state-refusal = at-if1 .before in
-    let s = at-state-refusal .before .before .before .before .before .before in
-    let f = fitted-by (at-state-refusal .state-refusal .ensures) (at-if1 .if1 .left) in
-    call-accepted (state (now (s .args .edges)) (now (s .args .figures)) (now (s .args .marks))) _ _ f (at-reconcile-refusal .reconcile-refusal .ensures) (at-if2 .if2 .left)
-    (steps-reconcile (state (now (s .args .edges)) (now (s .args .figures)) (now (s .args .marks))) (now (s .args .theirs)) (now (s .args .base)) f (at-take-all .take-all .ensures) (at-take-all .take-all .kept .1 .0) (at-take-all2 .take-all2 .ensures))
+    let again = added c in
+    let first = removed (again .before) in
+    let at = accepted (first .before) in
+    let s = entry (passed (at .before) .before) in
+    let f = fits (passed (at .before)) in
+    call-accepted (given s) _ _ f (at .before .reconcile-refusal .ensures) (at .if2 .left)
+    (steps-reconcile (given s) (now (s .args .theirs)) (now (s .args .base)) f
+    (first .take-all .ensures .0) (first .take-all .kept .1 .0) (again .take-all2 .ensures .0))
 
 pub reconcile-spec : {M : Type 1} → statement M
 reconcile-spec =
     tie.close
-    (tie.spec
-    state-refusal-requires
-    returns
-    reconcile-refusal-requires
-    same-length
-    returns-2
-    take-all-requires
-    take-all-requires-2
-    same-length-2
-    same-length-3
-    same-length-4
-    returns-3)
+    (tie.spec (λ c κs. search needs) returns degrees-of-requires reconcile-refusal-requires (λ c. search needs) returns-2
+    (λ c. search needs) take-all-requires (λ c. search needs) take-all-requires-2 (λ c. search needs) (λ c. search needs)
+    (λ c. search needs) returns-3)

@@ -1,68 +1,56 @@
 -- `merge::taken::take` meets its contract. Assumes nothing.
-use mathlib.Core.Path.{refl, sym, _∙_}
+use mathlib.Core.Path.{sym, _∙_}
 use borrow.Author.Needs.{needs}
-use borrow.Author.Tests.{not-true}
-use Rattle.merge.proofs.StepLaws.{aligned-theirs, alike, pair-rooms, unlike, untaken}
-use Rattle.packed.proofs.PairLaws.{room-within}
+use borrow.Author.Tests.{not-false, not-true}
+use Rattle.merge.proofs.StepLaws.{beq-same, ready-rooms, ready-step, step-changes, step-stays, untaken}
 use Rattle.merge.proofs.taken.take.Statement.{statement}
 use Rattle.merge.proofs.taken.take.Tie as tie
 
-takes-requires : tie.Need-takes-requires
-takes-requires c κs =
-    let s = c .before .before .before .before .before .before in
-    pair-rooms (s .pre .0) (s .pre .1) (s .pre .2)
+abbrev start : tie.After-takes-arg → tie.Start
+start c = c .before .before .before .before .before .before .before
 
-same-length : tie.Need-same-length
-same-length c = search needs
+abbrev at-then : tie.After-step-arg4 → tie.Then2
+at-then c = c .before .before .before .before
+
+abbrev at-step : tie.After-slice-known8 → tie.After-step
+at-step c = c .before .before .before .before .before .before .before .before
+
+takes-requires : tie.Need-takes-requires
+takes-requires c κs = let s = start c in ready-rooms (s .pre .2) _ _ (s .pre .0) (s .pre .1)
 
 returns : tie.Need-returns
-returns c = untaken _ _ _ _ _ _ (sym (c .before .takes .ensures) ∙ not-true _ (c .if1 .taken))
+returns c = (untaken _ _ _ _ _ _ (sym (c .before .takes .ensures) ∙ not-true _ (c .if1 .taken)), start (c .before .before) .pre .2 .counted)
 
 has-requires : tie.Need-has-requires
-has-requires c κs =
-    let s = c .before .before .before .before .before .before .before .before in
-    room-within _ _ _ _ (s .pre .0) (s .pre .1) (aligned-theirs (s .pre .2) _ refl)
+has-requires c κs = let s = start (c .before .before) in ready-rooms (s .pre .2) _ _ (s .pre .0) (s .pre .1) .1
 
-apply-requires : tie.Need-apply-requires
-apply-requires c κs = search needs
-
-same-length-2 : tie.Need-same-length-2
-same-length-2 c = search needs
-
-same-length-3 : tie.Need-same-length-3
-same-length-3 c = search needs
-
-same-length-4 : tie.Need-same-length-4
-same-length-4 c = search needs
+step-requires : tie.Need-step-requires
+step-requires c κs =
+    let has = at-then c .before in
+    let if1 = has .before in
+    let s = start (if1 .before .before) in (
+      ready-step (s .pre .2) _ _ (s .pre .0) (s .pre .1) (sym (if1 .before .takes .ensures) ∙ not-false _ (if1 .if1 .left))
+          (sym (has .has .ensures) ∙ beq-same _ _ (at-then c .if2 .taken)),
+      s .pre .2 .counted,
+    )
 
 returns-2 : tie.Need-returns-2
 returns-2 c =
-    let at-apply = c .before .before .before .before .before .before in
-    let at-if2 = at-apply .before .before .before .before in
-    let at-has = at-if2 .before in
-    let at-if1 = at-has .before in
-    alike _ _ _ _ _ _ (at-if1 .before .takes .ensures) (at-if1 .if1 .left) (at-has .has .ensures) (at-if2 .if2 .taken) (at-apply .apply .ensures)
-
-same-length-5 : tie.Need-same-length-5
-same-length-5 c = search needs
+    let if2 = at-then (at-step c .before) in
+    let has = if2 .before in
+    let if1 = has .before in
+    let step = at-step c .step in
+    (step-changes _ _ _ _ _ _ (if1 .before .takes .ensures) (if1 .if1 .left) (has .has .ensures) (if2 .if2 .taken) (step .ensures .0), step .ensures .1)
 
 returns-3 : tie.Need-returns-3
 returns-3 c =
-    let at-if1 = c .before .before in
-    unlike _ _ _ _ _ _ (at-if1 .before .takes .ensures) (at-if1 .if1 .left) (c .before .has .ensures) (c .if2 .left)
+    let if1 = c .before .before in (
+      step-stays _ _ _ _ _ _ (if1 .before .takes .ensures) (if1 .if1 .left) (c .before .has .ensures) (c .if2 .left),
+      start (if1 .before .before) .pre .2 .counted,
+    )
 
 pub take-spec : {M : Type 1} → statement M
 take-spec =
     tie.close
-    (tie.spec
-    takes-requires
-    same-length
-    returns
-    has-requires
-    apply-requires
-    same-length-2
-    same-length-3
-    same-length-4
-    returns-2
-    same-length-5
-    returns-3)
+    (tie.spec takes-requires (λ c. search needs) returns has-requires step-requires (λ c. search needs) (λ c. search needs)
+    (λ c. search needs) (λ c. search needs) returns-2 (λ c. search needs) returns-3)

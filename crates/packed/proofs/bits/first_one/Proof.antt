@@ -9,9 +9,6 @@ use Rattle.packed.proofs.FirstLaws.{first-one-is}
 use Rattle.packed.proofs.bits.first_one.Statement.{statement}
 use Rattle.packed.proofs.bits.first_one.Tie as tie
 
-shr-result : tie.Need-shr-result
-shr-result c = search needs
-
 cast-result : tie.Need-cast-result
 cast-result c = omega (arith, leading-le 64 (bitAnd (c .args .word) (18446744073709551615 / 2 ^ c .args .from)))
 
@@ -19,4 +16,4 @@ returns : tie.Need-returns
 returns c = first-one-is (c .args .word) (c .args .from) (c .pre)
 
 pub first-one-spec : {M : Type 1} → statement M
-first-one-spec = tie.close (tie.spec shr-result cast-result returns)
+first-one-spec = tie.close (tie.spec (λ c. search needs) cast-result returns)

@@ -1,8 +1,8 @@
 -- `packed::bits::next_differing` meets its contract: a walk over words, and the two agree on every bit before i. Assumes nothing.
-use Prim.Native.Nat.{_-_}
+use Prim.Native.Nat.{_-_, ℕ}
 use native.Mathlib.Omega.{arith}
 use lib.Bits.{bitXor}
-use Rattle.packed.proofs.FirstLaws.{holds-differ, Passed, passed-all, passed-none, turn-ends, turn-finds, turn-goes}
+use Rattle.packed.proofs.FirstLaws.{Passed, passed-all, passed-none, turn-ends, turn-finds, turn-goes, word-has-differing}
 use Rattle.packed.specs.Bits.{bitAt, differ}
 use Rattle.packed.proofs.bits.next_differing.Statement.{statement}
 use Rattle.packed.proofs.bits.next_differing.Tie as tie
@@ -13,20 +13,14 @@ Inv-loop x y from to i₀ i = Passed (λ k. differ (bitAt x k) (bitAt y k)) from
 abbrev μ-loop : tie.MeasureT-loop
 μ-loop x y from to i₀ i = to - i
 
+abbrev walk : tie.After-first-one Inv-loop μ-loop → tie.At-loop Inv-loop μ-loop
+walk c = c .before .before .before .before
+
+abbrev word : tie.After-first-one Inv-loop μ-loop → ℕ
+word c = bitXor (c .before .before .word-at .result) (c .before .word-at2 .result)
+
 loop-holds : tie.Need-loop-holds Inv-loop μ-loop
 loop-holds c = passed-none _ _ _ (c .before .before .pre .0)
-
-word-at-requires : tie.Need-word-at-requires Inv-loop μ-loop
-word-at-requires c κs = omega arith
-
-word-at-requires-2 : tie.Need-word-at-requires-2 Inv-loop μ-loop
-word-at-requires-2 c κs = omega arith
-
-first-one-requires : tie.Need-first-one-requires Inv-loop μ-loop
-first-one-requires c κs = omega arith
-
-sub-if1 : tie.Need-sub-if1 Inv-loop μ-loop
-sub-if1 c = omega arith
 
 sub-if1-2 : tie.Need-sub-if1-2 Inv-loop μ-loop
 sub-if1-2 c = c .first-one .ensures .start
@@ -34,35 +28,25 @@ sub-if1-2 c = c .first-one .ensures .start
 returns : tie.Need-returns Inv-loop μ-loop
 returns c =
     let found = c .before in
-    let at = found .before .before .before .before .loop in
-    turn-ends (bitXor (found .before .before .word-at .result) (found .before .word-at2 .result)) (at .inv) (holds-differ _ _ _ (found .before .before .word-at .ensures) (found .before .word-at2 .ensures)) (found .first-one .ensures) (c .if1 .taken)
+    turn-ends (word found) (walk found .loop .inv)
+    (word-has-differing _ _ _ (found .before .before .word-at .ensures) (found .before .word-at2 .ensures)) (found .first-one .ensures) (c .if1 .taken)
 
 sub-result : tie.Need-sub-result Inv-loop μ-loop
 sub-result c = c .before .before .first-one .ensures .start
 
-add-result : tie.Need-add-result Inv-loop μ-loop
-add-result c = omega arith
-
 returns-2 : tie.Need-returns-2 Inv-loop μ-loop
 returns-2 c =
     let found = c .before .before in
-    let at = found .before .before .before .before .loop in
-    turn-finds (bitXor (found .before .before .word-at .result) (found .before .word-at2 .result)) (at .inv) (holds-differ _ _ _ (found .before .before .word-at .ensures) (found .before .word-at2 .ensures)) (found .first-one .ensures) (c .before .if1 .left) (c .if2 .taken)
-
-sub-i : tie.Need-sub-i Inv-loop μ-loop
-sub-i c = omega arith
-
-add-i : tie.Need-add-i Inv-loop μ-loop
-add-i c = omega arith
-
-loop-less : tie.Need-loop-less Inv-loop μ-loop
-loop-less c = omega arith
+    turn-finds (word found) (walk found .loop .inv)
+    (word-has-differing _ _ _ (found .before .before .word-at .ensures) (found .before .word-at2 .ensures))
+    (found .first-one .ensures) (c .before .if1 .left) (c .if2 .taken)
 
 loop-again : tie.Need-loop-again Inv-loop μ-loop
 loop-again c =
     let found = c .before .before in
-    let at = found .before .before .before .before .loop in
-    turn-goes (bitXor (found .before .before .word-at .result) (found .before .word-at2 .result)) (at .inv) (holds-differ _ _ _ (found .before .before .word-at .ensures) (found .before .word-at2 .ensures)) (found .first-one .ensures) (c .before .if1 .left) (c .if2 .left)
+    turn-goes (word found) (walk found .loop .inv)
+    (word-has-differing _ _ _ (found .before .before .word-at .ensures) (found .before .word-at2 .ensures))
+    (found .first-one .ensures) (c .before .if1 .left) (c .if2 .left)
 
 returns-3 : tie.Need-returns-3 Inv-loop μ-loop
 returns-3 c = passed-all (c .before .loop .inv) (c .loop-test .left)
@@ -70,21 +54,5 @@ returns-3 c = passed-all (c .before .loop .inv) (c .loop-test .left)
 pub next-differing-spec : {M : Type 1} → statement M
 next-differing-spec =
     tie.close
-    (tie.spec
-    Inv-loop
-    μ-loop
-    loop-holds
-    word-at-requires
-    word-at-requires-2
-    first-one-requires
-    sub-if1
-    sub-if1-2
-    returns
-    sub-result
-    add-result
-    returns-2
-    sub-i
-    add-i
-    loop-less
-    loop-again
-    returns-3)
+    (tie.spec Inv-loop μ-loop loop-holds (λ c κs. omega arith) (λ c κs. omega arith) (λ c κs. omega arith) (λ c. omega arith) sub-if1-2
+    returns sub-result (λ c. omega arith) returns-2 (λ c. omega arith) (λ c. omega arith) (λ c. omega arith) loop-again returns-3)

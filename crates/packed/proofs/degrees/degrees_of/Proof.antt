@@ -7,7 +7,7 @@ use borrow.Author.Needs.{needs}
 use lib.ListN.{length}
 use Rattle.packed.proofs.DegreeLaws.{degrees-none, length-degrees}
 use Rattle.packed.proofs.PairLaws.{room-mono}
-use Rattle.packed.specs.Degrees.{degreesOf}
+use Rattle.packed.specs.inside.Degrees.{degreesOf}
 use Rattle.packed.proofs.degrees.degrees_of.Statement.{statement}
 use Rattle.packed.proofs.degrees.degrees_of.Tie as tie
 
@@ -25,14 +25,9 @@ slice-aggregate-count-row c = sym (ap length (c .before .before .loop .inv .1) �
 
 count-row-requires : tie.Need-count-row-requires Inv-loop μ-loop
 count-row-requires c κs =
-    let s = c .before .before .before .before in
-    (omega (arith, s .pre .few), room-mono (omega arith) (s .pre), c .before .before .loop .inv .1)
-
-add-b : tie.Need-add-b Inv-loop μ-loop
-add-b c = omega arith
-
-loop-less : tie.Need-loop-less Inv-loop μ-loop
-loop-less c = omega arith
+    let at = c .before .before in
+    let s = at .before .before in
+    (omega (arith, s .pre .few), room-mono (omega arith) (s .pre), at .loop .inv .1)
 
 loop-again : tie.Need-loop-again Inv-loop μ-loop
 loop-again c = (omega arith, c .before .count-row .ensures)
@@ -43,13 +38,5 @@ returns c = c .before .loop .inv .1 ∙ ap (degreesOf _) (le-antisymm (c .before
 pub degrees-of-spec : {M : Type 1} → statement M
 degrees-of-spec =
     tie.close
-    (tie.spec
-    Inv-loop
-    μ-loop
-    loop-holds
-    slice-aggregate-count-row
-    count-row-requires
-    add-b
-    loop-less
-    loop-again
+    (tie.spec Inv-loop μ-loop loop-holds slice-aggregate-count-row count-row-requires (λ c. omega arith) (λ c. omega arith) loop-again
     returns)

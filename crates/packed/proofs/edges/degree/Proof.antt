@@ -1,18 +1,27 @@
--- `packed::edges::degree` meets its contract: the row counts the nodes below p, and the column those above. Assumes nothing.
+-- `packed::edges::degree` meets its contract: the size of the row. Assumes nothing.
+use mathlib.Core.Path.{ap, _∙_}
+use Prim.Native.Nat.{_*_, _+_, _/_, ℕ}
 use native.Mathlib.Omega.{arith}
 use borrow.Author.Needs.{needs}
-use Rattle.packed.proofs.PairLaws.{room-mono}
+use denote.Ref.{now}
+use Rattle.arith.specs.Sums.{countTo}
+use Rattle.packed.proofs.SetLaws.{row-size}
+use Rattle.packed.specs.inside.Rows.{inSet}
 use Rattle.packed.proofs.edges.degree.Statement.{statement}
 use Rattle.packed.proofs.edges.degree.Tie as tie
 
-degree-below-requires : tie.Need-degree-below-requires
-degree-below-requires c κs = room-mono (omega arith) (c .before .pre .1)
+add-size-of : tie.Need-add-size-of
+add-size-of c = omega (arith, c .before .before .pre .1 .few)
 
-degree-above-requires : tie.Need-degree-above-requires
-degree-above-requires c κs = search needs
+size-of-requires : tie.Need-size-of-requires
+size-of-requires c κs = omega (arith, c .before .before .pre .1 .few)
 
 returns : tie.Need-returns
-returns c = search needs
+returns c =
+    let s = c .before .before .before in
+    let words : ℕ = (s .args .n + 31) / 32 in
+    c .size-of .ensures ∙ ap (λ row. countTo (inSet row) (32 * words)) (c .before .row-of .ensures)
+    ∙ row-size (now (s .args .edges)) (s .args .n) (s .args .p) (32 * words) (omega arith) (omega (arith, s .pre .1 .few))
 
 pub degree-spec : {M : Type 1} → statement M
-degree-spec = tie.close (tie.spec degree-below-requires degree-above-requires returns)
+degree-spec = tie.close (tie.spec (λ c κs. search needs) add-size-of size-of-requires returns)

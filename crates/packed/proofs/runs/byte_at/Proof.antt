@@ -7,15 +7,6 @@ use Rattle.packed.proofs.RunLaws.{run-byte, run-past}
 use Rattle.packed.proofs.runs.byte_at.Statement.{statement}
 use Rattle.packed.proofs.runs.byte_at.Tie as tie
 
-sub-if1 : tie.Need-sub-if1
-sub-if1 c = search needs
-
-add-result : tie.Need-add-result
-add-result c = search needs
-
-shared-slice-read-result : tie.Need-shared-slice-read-result
-shared-slice-read-result c = search needs
-
 cast-result : tie.Need-cast-result
 cast-result c = let s = c .before .before in omega (arith, c .shared-slice-known .given (s .args .k + s .args .m))
 
@@ -28,5 +19,4 @@ returns-2 : tie.Need-returns-2
 returns-2 c = let s = c .before in sym (run-past (s .args .bits .now) (s .args .k + s .args .m) (omega arith))
 
 pub byte-at-spec : {M : Type 1} → statement M
-byte-at-spec =
-    tie.close (tie.spec sub-if1 add-result shared-slice-read-result cast-result returns returns-2)
+byte-at-spec = tie.close (tie.spec (λ c. search needs) (λ c. search needs) (λ c. search needs) cast-result returns returns-2)

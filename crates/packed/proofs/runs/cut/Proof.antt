@@ -8,12 +8,6 @@ use borrow.Author.Needs.{needs}
 use Rattle.packed.proofs.runs.cut.Statement.{statement}
 use Rattle.packed.proofs.runs.cut.Tie as tie
 
-shr-result : tie.Need-shr-result
-shr-result c = search needs
-
-shl-result : tie.Need-shl-result
-shl-result c = search needs
-
 rem-result : tie.Need-rem-result
 rem-result c = omega (arith, shifted-one (c .args .count) (c .pre .1), pow-pos (c .args .count))
 
@@ -21,4 +15,4 @@ returns : tie.Need-returns
 returns c = ap (λ m. c .args .word / 2 ^ c .args .after % m) (shifted-one (c .args .count) (c .pre .1))
 
 pub cut-spec : {M : Type 1} → statement M
-cut-spec = tie.close (tie.spec shr-result shl-result rem-result returns)
+cut-spec = tie.close (tie.spec (λ c. search needs) (λ c. search needs) rem-result returns)

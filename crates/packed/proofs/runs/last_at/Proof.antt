@@ -4,7 +4,7 @@ use Prim.Native.Nat.{_*_, _-_, _≤_}
 use native.Mathlib.Omega.{arith}
 use borrow.Author.Needs.{needs}
 use Rattle.packed.proofs.RunLaws.{run-none, run-or}
-use Rattle.packed.specs.Runs.{runOf}
+use Rattle.packed.specs.Bits.{runOf}
 use Rattle.packed.proofs.runs.last_at.Statement.{statement}
 use Rattle.packed.proofs.runs.last_at.Tie as tie
 
@@ -20,17 +20,11 @@ loop-holds c = (search needs, sym (run-none _ _))
 byte-at-requires : tie.Need-byte-at-requires Inv-loop μ-loop
 byte-at-requires c κs = c .before .before .before .pre
 
-add-m : tie.Need-add-m Inv-loop μ-loop
-add-m c = omega arith
-
-loop-less : tie.Need-loop-less Inv-loop μ-loop
-loop-less c = omega arith
-
 loop-again : tie.Need-loop-again Inv-loop μ-loop
 loop-again c =
-    let s = c .before .before .before .before in
-    let at = c .before .before .loop in
-    (omega arith, run-or (s .args .bits .now) (s .args .k) (at .m) 1 (omega arith) (at .inv .1) (c .byte-at .ensures))
+    let at = c .before .before in
+    let s = at .before .before in
+    (omega arith, run-or (s .args .bits .now) (s .args .k) (at .loop .m) 1 (omega arith) (at .loop .inv .1) (c .byte-at .ensures))
 
 returns : tie.Need-returns Inv-loop μ-loop
 returns c =
@@ -41,4 +35,4 @@ returns c =
 pub last-at-spec : {M : Type 1} → statement M
 last-at-spec =
     tie.close
-    (tie.spec Inv-loop μ-loop loop-holds byte-at-requires add-m loop-less loop-again returns)
+    (tie.spec Inv-loop μ-loop loop-holds byte-at-requires (λ c. omega arith) (λ c. omega arith) loop-again returns)

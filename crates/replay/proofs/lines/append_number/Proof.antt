@@ -1,35 +1,21 @@
 -- `replay::lines::append_number` meets its contract. Assumes nothing.
+use Prim.Native.Nat.{_≤_}
 use native.Mathlib.Omega.{arith}
 use borrow.Author.Needs.{needs}
 use Rattle.replay.proofs.DigitLaws.{few-digits}
+use Rattle.replay.specs.Limits.{maxDigits}
 use Rattle.replay.proofs.lines.append_number.Statement.{statement}
 use Rattle.replay.proofs.lines.append_number.Tie as tie
 
-decimal-requires : tie.Need-decimal-requires
-decimal-requires c κs = search needs
+-- the digits are few
+few : (c : tie.After-decimal) → c .decimal .result ≤ maxDigits
+few c = few-digits (c .before .before .args .x) (c .decimal .result) (omega arith) (c .decimal .ensures .1 .0)
 
-array-share-prefix-digits : tie.Need-array-share-prefix-digits
-array-share-prefix-digits c = search needs
-
-slice-aggregate-append : tie.Need-slice-aggregate-append
-slice-aggregate-append c = search needs
-
-append-requires : tie.Need-append-requires
-append-requires c κs =
-    let d = c .before .before .decimal in
-    omega (arith, d .ensures .0 .1, few-digits (c .before .before .before .before .args .x) (d .result) (omega arith) (d .ensures .1 .0))
+append-bytes-requires : tie.Need-append-bytes-requires
+append-bytes-requires c κs = let d = c .before .before in omega (arith, d .decimal .ensures .0 .1, few d)
 
 returns : tie.Need-returns
-returns c =
-    let d = c .before .before .before .decimal in
-    omega (arith, d .ensures .0 .1, few-digits (c .before .before .before .before .before .args .x) (d .result) (omega arith) (d .ensures .1 .0))
+returns c = let d = c .before .before .before in omega (arith, d .decimal .ensures .0 .1, few d)
 
 pub append-number-spec : {M : Type 1} → statement M
-append-number-spec =
-    tie.close
-    (tie.spec
-    decimal-requires
-    array-share-prefix-digits
-    slice-aggregate-append
-    append-requires
-    returns)
+append-number-spec = tie.close (tie.spec (λ c κs. search needs) (λ c. search needs) (λ c. search needs) append-bytes-requires returns)

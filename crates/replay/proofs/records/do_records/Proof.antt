@@ -8,7 +8,8 @@ use Rattle.replay.proofs.records.do_records.Statement.{statement}
 use Rattle.replay.proofs.records.do_records.Tie as tie
 
 abbrev Inv-loop : tie.InvT-loop
-Inv-loop script edges₀ figures₀ marks₀ at₀ edges figures marks at = (at ≤ 8 * length script) × (length edges ≡ length edges₀) × (length figures ≡ length figures₀) × (length marks ≡ length marks₀)
+Inv-loop script edges₀ figures₀ marks₀ at₀ edges figures marks at =
+    (at ≤ 8 * length script) × (length edges ≡ length edges₀) × (length figures ≡ length figures₀) × (length marks ≡ length marks₀)
 
 abbrev μ-loop : tie.MeasureT-loop
 μ-loop script edges₀ figures₀ marks₀ at₀ edges figures marks at = 8 * length script - at
@@ -19,37 +20,14 @@ loop-holds c = (omega arith, refl, refl, refl)
 do-record-requires : tie.Need-do-record-requires Inv-loop μ-loop
 do-record-requires c κs = c .before .before .before .loop .inv .0
 
-same-length : tie.Need-same-length Inv-loop μ-loop
-same-length c = search needs
-
-same-length-2 : tie.Need-same-length-2 Inv-loop μ-loop
-same-length-2 c = search needs
-
-same-length-3 : tie.Need-same-length-3 Inv-loop μ-loop
-same-length-3 c = search needs
-
-returns : tie.Need-returns Inv-loop μ-loop
-returns c = omega arith
-
-loop-less : tie.Need-loop-less Inv-loop μ-loop
-loop-less c = omega arith
+abbrev done : tie.Else1 Inv-loop μ-loop → tie.After-do-record Inv-loop μ-loop
+done c = c .before .before .before .before .before .before .before
 
 loop-again : tie.Need-loop-again Inv-loop μ-loop
-loop-again c =
-    let at-do-record = c .before .before .before .before .before .before .before in
-    (at-do-record .do-record .ensures .1, omega arith, omega arith, omega arith)
+loop-again c = (done c .do-record .ensures .1, omega arith, omega arith, omega arith)
 
 pub do-records-spec : {M : Type 1} → statement M
 do-records-spec =
     tie.close
-    (tie.spec
-    Inv-loop
-    μ-loop
-    loop-holds
-    do-record-requires
-    same-length
-    same-length-2
-    same-length-3
-    returns
-    loop-less
-    loop-again)
+    (tie.spec Inv-loop μ-loop loop-holds do-record-requires (λ c. search needs) (λ c. search needs) (λ c. search needs) (λ c. omega arith)
+    (λ c. omega arith) loop-again)

@@ -10,16 +10,10 @@ use Rattle.script.proofs.step.bits_left.Tie as tie
 returns : tie.Need-returns
 returns c = sym (left-long _ _ (c .if1 .taken))
 
-mul-bits : tie.Need-mul-bits
-mul-bits c = search needs
-
 returns-2 : tie.Need-returns-2
 returns-2 c =
     let s = c .before .before in
     omega (arith, left-is (now (s .args .script)) (s .args .at) (c .before .if1 .left))
-
-sub-result : tie.Need-sub-result
-sub-result c = search needs
 
 returns-3 : tie.Need-returns-3
 returns-3 c =
@@ -27,4 +21,4 @@ returns-3 c =
     sym (left-is (now (s .args .script)) (s .args .at) (c .before .if1 .left))
 
 pub bits-left-spec : {M : Type 1} → statement M
-bits-left-spec = tie.close (tie.spec returns mul-bits returns-2 sub-result returns-3)
+bits-left-spec = tie.close (tie.spec returns (λ c. search needs) returns-2 (λ c. search needs) returns-3)

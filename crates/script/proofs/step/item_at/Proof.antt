@@ -1,111 +1,99 @@
 -- `script::step::item_at` meets its contract. `room` says that a record's bits are there, `found` what was read of them. Assumes nothing.
-use mathlib.Core.Path.{sym, _∙_}
+use mathlib.Core.Bool.{Bool, cond}
+use mathlib.Core.Path.{sym, _∙_, _≡_}
 use Prim.Native.Nat.{_*_, _+_, _≤_}
 use native.Mathlib.Omega.{arith}
 use borrow.Author.Needs.{needs}
 use denote.Ref.{now}
 use lib.ListN.{length}
 use Rattle.packed.proofs.RunLaws.{run-lt}
-use Rattle.script.proofs.RecordLaws.{Found, left-room, item-add, item-bad-end, item-end, item-few, item-list, item-list-b, item-remove}
+use Rattle.packed.specs.Bits.{bitAt}
+use Rattle.script.proofs.RecordLaws.{RecordRead, left-room, item-add, item-few, item-list, item-list-b, item-other, item-remove}
 use Rattle.script.specs.Limits.{maxBytes, recordBits}
+use Rattle.script.specs.Record.{itemAt}
+use Rattle.script.specs.declared.step.Item.the-variants.{End, Malformed}
 use Rattle.script.proofs.step.item_at.Statement.{statement}
 use Rattle.script.proofs.step.item_at.Tie as tie
 
-found : (c : tie.After-run-of3) → Found (now (c .before .before .before .before .before .before .args .script)) (c .before .before .before .before .before .before .args .at)
-    (c .before .before .before .before .bits-left .result) (c .before .before .run-of .result) (c .before .run-of2 .result) (c .run-of3 .result)
+-- the bits that are left are enough, and where that was asked
+abbrev enough : tie.After-run-of3 → tie.Else1
+enough c = c .before .before .before
+
+abbrev start : tie.Else1 → tie.Start
+start c = c .before .before .before
+
+found : (c : tie.After-run-of3)
+    → RecordRead (now (start (enough c) .args .script)) (start (enough c) .args .at) (enough c .before .bits-left .result) (c .before .before .run-of .result)
+    (c .before .run-of2 .result) (c .run-of3 .result)
 found c = record {
-  bits = c .before .before .before .before .bits-left .ensures;
-  enough = c .before .before .before .if1 .left;
+  bits = enough c .before .bits-left .ensures;
+  enough = enough c .if1 .left;
   kinds = c .before .before .run-of .ensures;
   first = c .before .run-of2 .ensures;
   second = c .run-of3 .ensures;
 }
 
-room : (c : tie.Else1) → (length (now (c .before .before .before .args .script)) ≤ maxBytes)
-    × (c .before .before .before .args .at + recordBits ≤ 8 * length (now (c .before .before .before .args .script)))
+room : (c : tie.Else1) → (length (now (start c .args .script)) ≤ maxBytes) × (start c .args .at + recordBits ≤ 8 * length (now (start c .args .script)))
 room c =
-    let s = c .before .before .before in
-    let r = left-room (now (s .args .script)) (s .args .at) (c .before .bits-left .result) (c .before .bits-left .ensures) (c .if1 .left) in
+    let r = left-room (now (start c .args .script)) (start c .args .at) (c .before .bits-left .result) (c .before .bits-left .ensures) (c .if1 .left) in
     (r .0, omega (arith, r .1, c .if1 .left))
 
-bits-left-requires : tie.Need-bits-left-requires
-bits-left-requires c κs = search needs
-
 returns : tie.Need-returns
-returns c =
-    let s = c .before .before .before in
-    item-few (now (s .args .script)) (s .args .at) _ (c .before .bits-left .ensures) (c .if1 .taken)
+returns c = item-few _ _ _ (c .before .bits-left .ensures) (c .if1 .taken)
 
 run-of-requires : tie.Need-run-of-requires
-run-of-requires c κs = let r = room c in (omega arith, omega arith, omega (arith, r .1))
+run-of-requires c κs = (omega arith, omega arith, omega (arith, room c .1))
 
 add-run-of : tie.Need-add-run-of
-add-run-of c = let r = room (c .before) in omega (arith, r .0, r .1)
+add-run-of c = omega (arith, room (c .before))
 
 run-of-requires-2 : tie.Need-run-of-requires-2
-run-of-requires-2 c κs = let r = room (c .before) in (omega arith, omega arith, omega (arith, r .1))
+run-of-requires-2 c κs = (omega arith, omega arith, omega (arith, room (c .before) .1))
 
 add-run-of-2 : tie.Need-add-run-of-2
-add-run-of-2 c = let r = room (c .before .before) in omega (arith, r .0, r .1)
+add-run-of-2 c = omega (arith, room (c .before .before))
 
 run-of-requires-3 : tie.Need-run-of-requires-3
-run-of-requires-3 c κs = let r = room (c .before .before) in (omega arith, omega arith, omega (arith, r .1))
+run-of-requires-3 c κs = (omega arith, omega arith, omega (arith, room (c .before .before) .1))
 
 returns-2 : tie.Need-returns-2
 returns-2 c = item-add _ _ (found (c .before)) (c .if2 .taken)
 
 returns-3 : tie.Need-returns-3
-returns-3 c = item-remove _ _ (found (c .before .before)) (c .before .if2 .left) (c .if3 .taken)
+returns-3 c = item-remove _ _ (found (c .before .before)) (c .if3 .taken)
 
 add-k : tie.Need-add-k
 add-k c =
-    let at-run-of2 = c .before .before .before .before in
-    let s = at-run-of2 .before .before .before .before .before in
-    omega (arith, at-run-of2 .run-of2 .ensures, run-lt (now (s .args .script)) (s .args .at + 2) 8)
+    let f = c .before .before .before in
+    omega (arith, found f .first, run-lt (bitAt (now (start (enough f) .args .script))) (start (enough f) .args .at + 2) 8)
 
+-- of kind 3, and of the kind that is left
 returns-4 : tie.Need-returns-4
-returns-4 c =
-    item-list-b _ _ (found (c .before .before .before .before)) (c .before .before .before .if2 .left) (c .before .before .if3 .left) (c .before .if4 .taken) (c .if5 .taken)
+returns-4 c = let k = c .before in item-list-b _ _ (found (k .before .before .before)) (k .if4 .taken) (c .if5 .taken)
 
 returns-5 : tie.Need-returns-5
-returns-5 c =
-    item-list _ _ (found (c .before .before .before .before)) (c .before .before .before .if2 .left) (c .before .before .if3 .left) (c .before .if4 .taken) (c .if5 .left)
+returns-5 c = let k = c .before in item-list _ _ (found (k .before .before .before)) (k .if4 .taken) (c .if5 .left)
 
 ends-requires : tie.Need-ends-requires
 ends-requires c κs = let f = found (c .before .before .before) in (f .bits, f .enough)
 
+abbrev left : tie.After-ends → tie.After-run-of3
+left c = c .before .before .before .before
+
+other : (c : tie.After-ends) {ends : Bool} → c .ends .result ≡ ends
+    → cond ends End Malformed ≡ itemAt (now (start (enough (left c)) .args .script)) (start (enough (left c)) .args .at)
+other c e =
+    let k = c .before in
+    item-other _ _ (found (left c)) (k .before .before .if2 .left) (k .before .if3 .left) (k .if4 .left) (sym (c .ends .ensures) ∙ e)
+
 returns-6 : tie.Need-returns-6
-returns-6 c =
-    let at-if3 = c .before .before .before in
-    let at-if2 = at-if3 .before in
-    let here = at-if2 .before in
-    item-end _ _ (found here) (at-if2 .if2 .left) (at-if3 .if3 .left) (c .before .before .if4 .left)
-    (sym (c .before .ends .ensures) ∙ c .if6 .taken)
+returns-6 c = other (c .before) (c .if6 .taken)
 
 returns-7 : tie.Need-returns-7
-returns-7 c =
-    let at-if3 = c .before .before .before in
-    let at-if2 = at-if3 .before in
-    let here = at-if2 .before in
-    item-bad-end _ _ (found here) (at-if2 .if2 .left) (at-if3 .if3 .left) (c .before .before .if4 .left)
-    (sym (c .before .ends .ensures) ∙ c .if6 .left)
+returns-7 c = other (c .before) (c .if6 .left)
 
 pub item-at-spec : {M : Type 1} → statement M
 item-at-spec =
     tie.close
-    (tie.spec
-    bits-left-requires
-    returns
-    run-of-requires
-    add-run-of
-    run-of-requires-2
-    add-run-of-2
-    run-of-requires-3
-    returns-2
-    returns-3
-    add-k
-    returns-4
-    returns-5
-    ends-requires
-    returns-6
-    returns-7)
+    (tie.spec (λ c κs. search needs) returns run-of-requires add-run-of run-of-requires-2 add-run-of-2 run-of-requires-3 returns-2 returns-3
+    add-k returns-4 returns-5 ends-requires returns-6 returns-7)

@@ -23,23 +23,11 @@ abbrev μ-loop : tie.MeasureT-loop
 loop-holds : tie.Need-loop-holds Inv-loop μ-loop
 loop-holds c = (search needs, anyTo-none _)
 
-mul-if1 : tie.Need-mul-if1 Inv-loop μ-loop
-mul-if1 c = omega arith
-
-shared-slice-read-if1 : tie.Need-shared-slice-read-if1 Inv-loop μ-loop
-shared-slice-read-if1 c = omega arith
-
 cast-if1 : tie.Need-cast-if1 Inv-loop μ-loop
 cast-if1 c = omega (arith, c .shared-slice-known .given (c .before .before .loop .p))
 
 returns : tie.Need-returns Inv-loop μ-loop
 returns c = sym (anyTo-here _ _ (c .before .before .before .loop .p) (c .before .before .loop-test .taken) (lt-ltb limit _ (c .if1 .taken)))
-
-add-p : tie.Need-add-p Inv-loop μ-loop
-add-p c = omega arith
-
-loop-less : tie.Need-loop-less Inv-loop μ-loop
-loop-less c = omega arith
 
 loop-again : tie.Need-loop-again Inv-loop μ-loop
 loop-again c = (omega arith, anyTo-more _ (c .before .before .before .loop .p) (c .before .before .before .loop .inv .1) (le-ltb limit _ (c .if1 .left)))
@@ -50,15 +38,5 @@ returns-2 c = sym (ap (anyTo _) (sym (le-antisymm (c .before .loop .inv .0) (c .
 pub any-among-spec : {M : Type 1} → statement M
 any-among-spec =
     tie.close
-    (tie.spec
-    Inv-loop
-    μ-loop
-    loop-holds
-    mul-if1
-    shared-slice-read-if1
-    cast-if1
-    returns
-    add-p
-    loop-less
-    loop-again
-    returns-2)
+    (tie.spec Inv-loop μ-loop loop-holds (λ c. omega arith) (λ c. omega arith) cast-if1 returns (λ c. omega arith) (λ c. omega arith)
+    loop-again returns-2)

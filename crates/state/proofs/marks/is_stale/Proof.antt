@@ -4,12 +4,9 @@ use Rattle.state.specs.Marks.{stale}
 use Rattle.state.proofs.marks.is_stale.Statement.{statement}
 use Rattle.state.proofs.marks.is_stale.Tie as tie
 
-get-requires : tie.Need-get-requires
-get-requires c κs = omega arith
-
 returns : tie.Need-returns
 unfolding stale
 returns c = c .get .ensures
 
 pub is-stale-spec : {M : Type 1} → statement M
-is-stale-spec = tie.close (tie.spec get-requires returns)
+is-stale-spec = tie.close (tie.spec (λ c κs. omega arith) returns)

@@ -1,63 +1,45 @@
--- `state::marks::set_stale` meets its contract. After p turns the nodes below p are stale, and no other bit is set. Assumes nothing.
-use mathlib.Core.Bool.{true}
-use mathlib.Core.Path.{ap, refl, sym, _∙_, _≡_}
-use Prim.Native.Nat.{_-_, ℕ, _≤_}
-use native.Mathlib.Nat.{le-antisymm}
+-- `state::marks::set_stale` meets its contract: byte k has the bits of the nodes from 8 k on. Assumes nothing.
+use Prim.Native.Nat.{_-_}
 use native.Mathlib.Omega.{arith}
-use borrow.Author.Needs.{needs}
-use lib.ListN.{length, length-replicate, replicate}
-use Rattle.state.proofs.TouchLaws.{length-stale, stale-all, stale-none, stale-step}
-use Rattle.state.specs.Marks.{markBytes, staleTo}
+use Rattle.arith.proofs.Sums.{Filling, filling-all, filling-length, filling-more, filling-none}
+use Rattle.state.proofs.MarkLaws.{stale-byte, stale-bytes, staleByte}
 use Rattle.state.proofs.marks.set_stale.Statement.{statement}
 use Rattle.state.proofs.marks.set_stale.Tie as tie
 
 abbrev Inv-loop : tie.InvT-loop
-Inv-loop marks₀ n p₀ marks p = (p ≤ n) × (marks ≡ staleTo (λ p. true) (replicate (markBytes n) 0) p)
+Inv-loop marks₀ n k₀ k-end marks k = Filling (staleByte n) marks₀ k-end marks k
 
 abbrev μ-loop : tie.MeasureT-loop
-μ-loop marks₀ n p₀ marks p = n - p
-
-set-exact-requires : tie.Need-set-exact-requires Inv-loop μ-loop
-set-exact-requires c κs = search needs
+μ-loop marks₀ n k₀ k-end marks k = k-end - k
 
 loop-holds : tie.Need-loop-holds Inv-loop μ-loop
-loop-holds c = (search needs, c .before .before .set-exact .ensures ∙ ap (λ m. replicate m 0) (c .before .before .before .before .before .pre) ∙ sym (stale-none _ _))
+loop-holds c = filling-none _ _
 
-put-requires : tie.Need-put-requires Inv-loop μ-loop
-put-requires c κs =
-    let s = c .before .before .before .before .before .before .before .before in
-    let at = c .before .before .loop in
-    omega (arith, ap length (at .inv .1), length-stale (λ p. true) (replicate (markBytes (s .args .n)) 0) (at .p), length-replicate {A = ℕ} (markBytes (s .args .n)) 0)
+mul-first-bits : tie.Need-mul-first-bits Inv-loop μ-loop
+mul-first-bits c = omega (arith, c .before .before .before .pre)
 
-add-p : tie.Need-add-p Inv-loop μ-loop
-add-p c = omega arith
+sub-first-bits : tie.Need-sub-first-bits Inv-loop μ-loop
+sub-first-bits c = omega (arith, c .before .before .before .pre)
 
-loop-less : tie.Need-loop-less Inv-loop μ-loop
-loop-less c = omega arith
+slice-write-marks : tie.Need-slice-write-marks Inv-loop μ-loop
+slice-write-marks c = omega (arith, filling-length (c .before .before .loop .inv))
 
 loop-again : tie.Need-loop-again Inv-loop μ-loop
-loop-again c = (omega arith, stale-step (λ p. true) _ (c .before .before .before .before .before .loop .p) (c .before .before .before .before .before .loop .inv .1) refl (c .before .before .put .ensures))
+loop-again c =
+    let at = c .before .before in
+    let s = at .before .before in
+    filling-more (at .loop .inv) (c .before .loop-test .taken) (stale-byte (s .args .n) (at .loop .k) (omega (arith, s .pre)) (c .first-bits .ensures))
 
 same-length : tie.Need-same-length Inv-loop μ-loop
-same-length c =
-    let s = c .before .before .before .before .before .before .before in
-    ap length (c .before .loop .inv .1) ∙ length-stale _ _ (c .before .loop .p) ∙ length-replicate {A = ℕ} _ 0 ∙ sym (s .pre)
+same-length c = filling-length (c .before .loop .inv)
 
 returns : tie.Need-returns Inv-loop μ-loop
 returns c =
-    c .before .loop .inv .1 ∙ ap (staleTo (λ p. true) _) (le-antisymm (c .before .loop .inv .0) (c .loop-test .left)) ∙ stale-all _
+    let s = c .before .before .before in
+    stale-bytes (s .args .n) (s .pre) (filling-all (c .before .loop .inv) 0 (c .loop-test .left))
 
 pub set-stale-spec : {M : Type 1} → statement M
 set-stale-spec =
     tie.close
-    (tie.spec
-    Inv-loop
-    μ-loop
-    set-exact-requires
-    loop-holds
-    put-requires
-    add-p
-    loop-less
-    loop-again
-    same-length
-    returns)
+    (tie.spec Inv-loop μ-loop loop-holds mul-first-bits sub-first-bits (λ c κs. tt) slice-write-marks (λ c. omega arith) (λ c. omega arith)
+    loop-again same-length returns)

@@ -7,12 +7,6 @@ use Rattle.state.proofs.RefusalLaws.{number-accepted, number-refused}
 use Rattle.state.proofs.refusal.one_number.Statement.{statement}
 use Rattle.state.proofs.refusal.one_number.Tie as tie
 
-sub-result : tie.Need-sub-result
-sub-result c = search needs
-
-sub-result-2 : tie.Need-sub-result-2
-sub-result-2 c = search needs
-
 returns : tie.Need-returns
 returns c =
     let a = c .before .args in
@@ -23,4 +17,4 @@ returns-2 : tie.Need-returns-2
 returns-2 c = let a = c .before .args in number-accepted (a .refusal) (a .value) (c .if1 .left)
 
 pub one-number-spec : {M : Type 1} → statement M
-one-number-spec = tie.close (tie.spec sub-result sub-result-2 returns returns-2)
+one-number-spec = tie.close (tie.spec (λ c. search needs) (λ c. search needs) returns returns-2)

@@ -7,9 +7,6 @@ use Rattle.packed.specs.Bits.{bytesFor}
 use Rattle.state.proofs.sizes.edge_bytes.Statement.{statement}
 use Rattle.state.proofs.sizes.edge_bytes.Tie as tie
 
-row-start-requires : tie.Need-row-start-requires
-row-start-requires c κs = search needs
-
 add-result : tie.Need-add-result
 add-result c = omega (arith, c .row-start .ensures, pairs-few (c .before .pre))
 
@@ -17,4 +14,4 @@ returns : tie.Need-returns
 returns c = ap bytesFor (c .row-start .ensures)
 
 pub edge-bytes-spec : {M : Type 1} → statement M
-edge-bytes-spec = tie.close (tie.spec row-start-requires add-result returns)
+edge-bytes-spec = tie.close (tie.spec (λ c κs. search needs) add-result returns)

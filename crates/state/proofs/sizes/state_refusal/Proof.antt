@@ -7,8 +7,8 @@ use Rattle.state.specs.Marks.{markBytes}
 use Rattle.state.proofs.sizes.state_refusal.Statement.{statement}
 use Rattle.state.proofs.sizes.state_refusal.Tie as tie
 
-edge-refusal-requires : tie.Need-edge-refusal-requires
-edge-refusal-requires c κs = search needs
+abbrev sized : tie.After-mark-bytes → tie.After-edge-refusal
+sized c = c .before .before
 
 returns : tie.Need-returns
 returns c = sym (append-refused _ _ (sym (c .before .edge-refusal .ensures)) (c .if1 .taken))
@@ -18,16 +18,15 @@ mark-bytes-requires c κs = sized-by (c .before .edge-refusal .ensures) (c .if1 
 
 returns-2 : tie.Need-returns-2
 returns-2 c =
-    let s = c .before .before .before .before in
-    sym (sized-append (s .args .n) (s .args .edges) _ (sized-by (c .before .before .before .edge-refusal .ensures) (c .before .before .if1 .left))
+    let s = sized (c .before) .before in
+    sym (sized-append (s .args .n) (s .args .edges) _ (sized-by (sized (c .before) .edge-refusal .ensures) (c .before .before .if1 .left))
     ∙ refused-length [] (markBytes (s .args .n)) (s .args .marks) (λ e. c .if2 .taken (e ∙ sym (c .before .mark-bytes .ensures))))
 
 returns-3 : tie.Need-returns-3
 returns-3 c =
-    let s = c .before .before .before .before in
-    sym (sized-append (s .args .n) (s .args .edges) _ (sized-by (c .before .before .before .edge-refusal .ensures) (c .before .before .if1 .left))
+    let s = sized (c .before) .before in
+    sym (sized-append (s .args .n) (s .args .edges) _ (sized-by (sized (c .before) .edge-refusal .ensures) (c .before .before .if1 .left))
     ∙ passed-length [] (markBytes (s .args .n)) (s .args .marks) (c .if2 .left ∙ c .before .mark-bytes .ensures) ∙ refusal-none)
 
 pub state-refusal-spec : {M : Type 1} → statement M
-state-refusal-spec =
-    tie.close (tie.spec edge-refusal-requires returns mark-bytes-requires returns-2 returns-3)
+state-refusal-spec = tie.close (tie.spec (λ c κs. search needs) returns mark-bytes-requires returns-2 returns-3)

@@ -8,8 +8,8 @@ use denote.Ref.{now}
 use lib.ListN.{drop, getD}
 use Rattle.arith.specs.Rank.{before}
 use Rattle.topk.proofs.PlaceLaws.{place-end, place-here, place-on}
-use Rattle.topk.specs.Entries.{entry}
-use Rattle.topk.specs.Layout.{entriesOf, place}
+use Rattle.topk.specs.Entries.{entry, entriesOf}
+use Rattle.topk.specs.inside.Layout.{place}
 use Rattle.topk.proofs.entries.place_of.Statement.{statement}
 use Rattle.topk.proofs.entries.place_of.Tie as tie
 
@@ -20,51 +20,34 @@ Inv-loop entries kept node figure i₀ i =
 abbrev μ-loop : tie.MeasureT-loop
 μ-loop entries kept node figure i₀ i = kept - i
 
-loop-holds : tie.Need-loop-holds Inv-loop μ-loop
-loop-holds c = (omega arith, omega arith)
+-- ---- the places: the call, and the loop's test
+abbrev start : tie.At-loop Inv-loop μ-loop → tie.Start Inv-loop μ-loop
+start c = c .before .before
 
-entry-at-requires : tie.Need-entry-at-requires Inv-loop μ-loop
-entry-at-requires c κs = omega arith
-
-ranks-before-requires : tie.Need-ranks-before-requires Inv-loop μ-loop
-ranks-before-requires c κs = tt
+abbrev looped : tie.After-ranks-before Inv-loop μ-loop → tie.At-loop Inv-loop μ-loop
+looped c = c .before .before .before
 
 returns : tie.Need-returns Inv-loop μ-loop
 returns c =
-    let b = c .before .before .before .before in
-    let a = b .before .before .args in
+    let b = looped (c .before) in
+    let a = start b .args in
     let t : before (a .figure) (a .node) (getD (now (a .entries)) (2 * b .loop .i + 1) 0) (getD (now (a .entries)) (2 * b .loop .i) 0) ≡ true = cc in
     omega (arith, place-here (entry (a .node) (a .figure)) (a .kept) (b .loop .i) (now (a .entries)) (omega arith) t)
 
-add-i : tie.Need-add-i Inv-loop μ-loop
-add-i c = omega arith
-
-loop-less : tie.Need-loop-less Inv-loop μ-loop
-loop-less c = omega arith
-
 loop-again : tie.Need-loop-again Inv-loop μ-loop
 loop-again c =
-    let b = c .before .before .before .before in
-    let a = b .before .before .args in
+    let b = looped (c .before) in
+    let a = start b .args in
     let t : before (a .figure) (a .node) (getD (now (a .entries)) (2 * b .loop .i + 1) 0) (getD (now (a .entries)) (2 * b .loop .i) 0) ≡ false = cc in
     (omega arith, rw add-one (omega (arith, place-on (entry (a .node) (a .figure)) (a .kept) (b .loop .i) (now (a .entries)) (omega arith) t)))
 
 returns-2 : tie.Need-returns-2 Inv-loop μ-loop
 returns-2 c =
-    let a = c .before .before .before .args in
+    let a = start (c .before) .args in
     omega (arith, place-end (entry (a .node) (a .figure)) (a .kept) (c .before .loop .i) (now (a .entries)) (omega arith))
 
 pub place-of-spec : {M : Type 1} → statement M
 place-of-spec =
     tie.close
-    (tie.spec
-    Inv-loop
-    μ-loop
-    loop-holds
-    entry-at-requires
-    ranks-before-requires
-    returns
-    add-i
-    loop-less
-    loop-again
-    returns-2)
+    (tie.spec Inv-loop μ-loop (λ c. (omega arith, omega arith)) (λ c κs. omega arith) (λ c κs. tt) returns (λ c. omega arith)
+    (λ c. omega arith) loop-again returns-2)

@@ -1,21 +1,32 @@
--- `topk::entries::shift_in` meets its contract. After the turn for i the buffer is the spliced one up to 2i, and p and f are what comes next in it. Assumes nothing.
+-- `topk::entries::shift_in` meets its contract. After the turn for i the buffer is the spliced one up to 2i, and p and f come next in it.
+-- Assumes nothing.
 use mathlib.Core.Path.{refl, sym, _≡_}
 use Prim.Native.Nat.{_*_, _+_, _-_, _<_, _≤_}
 use native.Mathlib.Omega.{arith}
 use denote.Ref.{now}
 use lib.ListN.{getD, length}
-use Rattle.topk.proofs.SpliceLaws.{mixed, shift-figure, shift-node, shift-put, spliced-before, spliced-figure, spliced-node}
-use Rattle.topk.specs.Layout.{spliced}
+use Rattle.topk.proofs.SpliceLaws.{shift-figure, shift-node, shift-put, spliced-before, spliced-figure, spliced-node}
+use Rattle.topk.specs.inside.Layout.{entryPutIn, spliced}
 use Rattle.topk.proofs.entries.shift_in.Statement.{statement}
 use Rattle.topk.proofs.entries.shift_in.Tie as tie
 
 abbrev Inv-loop : tie.InvT-loop
 Inv-loop entries₀ kept k spot node figure p₀ f₀ i₀ entries p f i =
-    (spot ≤ i) × (i ≤ kept) × (length entries ≡ length entries₀) × (entries ≡ mixed (spliced entries₀ (2 * spot) node figure) entries₀ (2 * i))
+    (spot ≤ i) × (i ≤ kept) × (length entries ≡ length entries₀) × (entries ≡ entryPutIn entries₀ spot node figure i)
     × (p ≡ getD (spliced entries₀ (2 * spot) node figure) (2 * i) 0) × (f ≡ getD (spliced entries₀ (2 * spot) node figure) (2 * i + 1) 0)
 
 abbrev μ-loop : tie.MeasureT-loop
 μ-loop entries₀ kept k spot node figure p₀ f₀ i₀ entries p f i = kept - i
+
+-- ---- the places: the call, and the loop's test, before a turn and before the last put
+abbrev start : tie.At-loop Inv-loop μ-loop → tie.Start Inv-loop μ-loop
+start c = c .before .before
+
+abbrev looped : tie.After-slice-known2 Inv-loop μ-loop → tie.At-loop Inv-loop μ-loop
+looped c = c .before .before .before .before .before .before .before
+
+abbrev left : tie.After-slice-known3 Inv-loop μ-loop → tie.At-loop Inv-loop μ-loop
+left c = c .before .before .before .before .before .before
 
 loop-holds : tie.Need-loop-holds Inv-loop μ-loop
 loop-holds c =
@@ -30,22 +41,10 @@ loop-holds c =
       sym (spliced-figure E (2 * a .spot) (a .node) (a .figure) h),
     )
 
-entry-at-requires : tie.Need-entry-at-requires Inv-loop μ-loop
-entry-at-requires c κs = omega arith
-
-put-requires : tie.Need-put-requires Inv-loop μ-loop
-put-requires c κs = omega arith
-
-add-i : tie.Need-add-i Inv-loop μ-loop
-add-i c = omega arith
-
-loop-less : tie.Need-loop-less Inv-loop μ-loop
-loop-less c = omega arith
-
 loop-again : tie.Need-loop-again Inv-loop μ-loop
 loop-again c =
-    let b = c .before .before .before .before .before .before .before in
-    let a = b .before .before .args in
+    let b = looped c in
+    let a = start b .args in
     let E = now (a .entries) in
     let i = b .loop .i in
     let la : a .spot ≤ i = omega arith in
@@ -58,47 +57,22 @@ loop-again c =
       cc (shift-figure E (a .spot) i (a .node) (a .figure) la li),
     )
 
-put-requires-2 : tie.Need-put-requires-2 Inv-loop μ-loop
-put-requires-2 c κs = omega arith
-
-add-result : tie.Need-add-result Inv-loop μ-loop
-add-result c = omega arith
-
-same-length : tie.Need-same-length Inv-loop μ-loop
-same-length c = omega arith
-
 returns : tie.Need-returns Inv-loop μ-loop
 returns c =
-    let b = c .before .before .before .before .before .before in
-    let a = b .before .before .args in
+    let b = left c in
+    let a = start b .args in
     let e : b .loop .i ≡ a .kept = omega arith in
     let li : 2 * a .kept + 1 < length (now (a .entries)) = omega arith in
     (omega arith, cc (shift-put (now (a .entries)) (a .spot) (a .kept) (a .node) (a .figure) (omega arith) li))
 
-same-length-2 : tie.Need-same-length-2 Inv-loop μ-loop
-same-length-2 c = omega arith
-
 returns-2 : tie.Need-returns-2 Inv-loop μ-loop
 returns-2 c =
     let b = c .before .before in
-    let e : b .loop .i ≡ b .before .before .args .kept = omega arith in
+    let e : b .loop .i ≡ start b .args .kept = omega arith in
     (omega arith, cc)
 
 pub shift-in-spec : {M : Type 1} → statement M
 shift-in-spec =
     tie.close
-    (tie.spec
-    Inv-loop
-    μ-loop
-    loop-holds
-    entry-at-requires
-    put-requires
-    add-i
-    loop-less
-    loop-again
-    put-requires-2
-    add-result
-    same-length
-    returns
-    same-length-2
-    returns-2)
+    (tie.spec Inv-loop μ-loop loop-holds (λ c κs. omega arith) (λ c κs. omega arith) (λ c. omega arith) (λ c. omega arith) loop-again
+    (λ c κs. omega arith) (λ c. omega arith) (λ c. omega arith) returns (λ c. omega arith) returns-2)

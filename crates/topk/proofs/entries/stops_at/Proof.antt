@@ -5,23 +5,16 @@ use native.Mathlib.Omega.{arith}
 use borrow.Author.Needs.{needs}
 use denote.Ref.{now}
 use Rattle.topk.proofs.LayoutLaws.{stops-full, stops-not}
-use Rattle.topk.specs.Entries.{entry, stops}
-use Rattle.topk.specs.Layout.{entriesOf}
+use Rattle.topk.specs.Entries.{entry, stops, entriesOf}
 use Rattle.topk.proofs.entries.stops_at.Statement.{statement}
 use Rattle.topk.proofs.entries.stops_at.Tie as tie
 
-sub-entry-at : tie.Need-sub-entry-at
-sub-entry-at c = search needs
-
-entry-at-requires : tie.Need-entry-at-requires
-entry-at-requires c κs = search needs
-
-ranks-before-requires : tie.Need-ranks-before-requires
-ranks-before-requires c κs = search needs
+abbrev start : tie.Then1 → tie.Start
+start c = c .before .before
 
 returns : tie.Need-returns
 returns c =
-    let a = c .before .before .before .before .args in
+    let a = start (c .before .before) .args in
     let e : a .kept ≡ a .k = c .before .before .if1 .taken in
     let l : 0 < a .kept = omega arith in
     c .ranks-before .ensures
@@ -34,5 +27,4 @@ returns-2 c =
     sym (stops-not (a .k) (a .kept) (now (a .entries)) (entry (a .node) (a .figure)) (c .if1 .left))
 
 pub stops-at-spec : {M : Type 1} → statement M
-stops-at-spec =
-    tie.close (tie.spec sub-entry-at entry-at-requires ranks-before-requires returns returns-2)
+stops-at-spec = tie.close (tie.spec (λ c. search needs) (λ c κs. search needs) (λ c κs. search needs) returns returns-2)

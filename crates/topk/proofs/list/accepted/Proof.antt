@@ -8,49 +8,31 @@ use lib.ListN.{length, replicate}
 use Rattle.topk.proofs.list.accepted.Statement.{statement}
 use Rattle.topk.proofs.list.accepted.Tie as tie
 
-zero-requires : tie.Need-zero-requires
-zero-requires c κs = search needs
+-- ---- the places: the call, the scratch made 0, and all turns
+abbrev start : tie.After-zero → tie.Start
+start c = c .before .before .before .before .before .before .before
+
+abbrev cleared : tie.After-run-arg4 → tie.After-zero
+cleared c = c .before .before .before .before .before .before
+
+abbrev ran : tie.After-zero2 → tie.After-run
+ran c = c .before .before .before .before .before .before .before .before .before .before
 
 run-requires : tie.Need-run-requires
 run-requires c κs =
-    let at-zero = c .before .before .before .before .before .before in
-    let s = at-zero .before .before .before .before .before .before .before in
-    (s .pre .0, s .pre .1, at-zero .zero .ensures ∙ ap (λ (n : ℕ). replicate n 0) (s .pre .2), s .pre .3, s .pre .4)
-
-zero-requires-2 : tie.Need-zero-requires-2
-zero-requires-2 c κs = search needs
-
-same-length : tie.Need-same-length
-same-length c = search needs
-
-same-length-2 : tie.Need-same-length-2
-same-length-2 c = search needs
-
-same-length-3 : tie.Need-same-length-3
-same-length-3 c = search needs
-
-same-length-4 : tie.Need-same-length-4
-same-length-4 c = search needs
+    let z = cleared c in
+    (start z .pre .0, z .zero .ensures ∙ ap (λ (n : ℕ). replicate n 0) (start z .pre .1))
 
 returns : tie.Need-returns
 returns c =
-    let at-run = c .before .before .before .before .before .before .before .before .before .before .before .before in
-    let s = at-run .before .before .before .before .before .before .before .before .before .before .before .before .before .before in
-    let d = at-run .run in
-    let n : length (d .last .1 .1 .1 .0) ≡ length (now (s .args .figures)) = omega arith in (
-      d .ensures .0,
-      c .before .before .zero2 .ensures ∙ ap (λ (m : ℕ). replicate m 0) n,
-    )
+    let z = c .before .before in
+    let d = ran z in
+    let s = start (cleared (d .before)) in
+    let n : length (d .run .last .1 .1 .1 .0) ≡ length (now (s .args .figures)) = omega (arith, s .pre .1) in
+    (d .run .ensures .0, z .zero2 .ensures ∙ ap (λ (m : ℕ). replicate m 0) n)
 
 pub accepted-spec : {M : Type 1} → statement M
 accepted-spec =
     tie.close
-    (tie.spec
-    zero-requires
-    run-requires
-    zero-requires-2
-    same-length
-    same-length-2
-    same-length-3
-    same-length-4
-    returns)
+    (tie.spec (λ c κs. search needs) run-requires (λ c κs. search needs) (λ c. search needs) (λ c. search needs) (λ c. search needs)
+    (λ c. search needs) returns)

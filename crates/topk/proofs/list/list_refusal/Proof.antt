@@ -1,55 +1,59 @@
 -- `topk::list::list_refusal` meets its contract. Assumes nothing.
-use mathlib.Core.Path.{sym, _∙_}
+use mathlib.Core.List.{_++_, [], _∷_}
+use mathlib.Core.Path.{sym, _∙_, _≡_}
 use borrow.Author.Needs.{needs}
-use Rattle.state.proofs.RefusalLaws.{append-refused, fitted-append, fitted-by, passed-before, passed-listed, passed-scratch, refusal-none, refused-all-listed, refused-before, refused-none-listed, refused-scratch, sized-room}
+use denote.Ref.{now}
+use lib.ListN.{length}
+use Rattle.packed.specs.Edges.{edge}
+use Rattle.state.proofs.RefusalLaws as law
+use Rattle.state.specs.Outcome.{stateLengths}
+use Rattle.state.specs.Refusal.{crowdedBefore, everyone, refusal}
+use Rattle.topk.specs.List.{listConditions}
 use Rattle.topk.proofs.list.list_refusal.Statement.{statement}
 use Rattle.topk.proofs.list.list_refusal.Tie as tie
 
-state-refusal-requires : tie.Need-state-refusal-requires
-state-refusal-requires c κs = search needs
+abbrev start : tie.Else1 → tie.Start
+start c = c .before .before .before
 
 returns : tie.Need-returns
-returns c = sym (append-refused _ _ (sym (c .before .state-refusal .ensures)) (c .if1 .taken))
+returns c = sym (law.append-refused _ _ (sym (c .before .state-refusal .ensures)) (c .if1 .taken))
+
+-- the lengths of the state fit
+fitted : (c : tie.Else1) → let a = start c .args in law.Fitted (a .n) (length (now (a .edges))) (a .marks)
+fitted c = law.fitted-by (c .before .state-refusal .ensures) (c .if1 .left)
 
 returns-2 : tie.Need-returns-2
-returns-2 c = sym (fitted-append _ _ _ _ (fitted-by (c .before .before .state-refusal .ensures) (c .before .if1 .left)) ∙ refused-scratch _ _ _ (c .if2 .taken))
+returns-2 c = sym (law.fitted-append _ _ _ _ (fitted (c .before)) ∙ law.refused-scratch _ _ _ (c .if2 .taken))
 
 returns-3 : tie.Need-returns-3
-returns-3 c = sym (fitted-append _ _ _ _ (fitted-by (c .before .before .before .state-refusal .ensures) (c .before .before .if1 .left)) ∙ passed-scratch _ _ _ (c .before .if2 .left) ∙ refused-none-listed _ _ _ (c .if3 .taken))
+returns-3 c =
+    sym (law.fitted-append _ _ _ _ (fitted (c .before .before)) ∙ law.passed-scratch _ _ _ (c .before .if2 .left) ∙ law.refused-none-listed _ _ _
+    (c .if3 .taken))
 
 returns-4 : tie.Need-returns-4
-returns-4 c = sym (fitted-append _ _ _ _ (fitted-by (c .before .before .before .before .state-refusal .ensures) (c .before .before .before .if1 .left)) ∙ passed-scratch _ _ _ (c .before .before .if2 .left) ∙ refused-all-listed _ _ _ (c .if4 .taken))
+returns-4 c =
+    let t = c .before .before in
+    sym (law.fitted-append _ _ _ _ (fitted (t .before)) ∙ law.passed-scratch _ _ _ (t .if2 .left) ∙ law.refused-all-listed _ _ _ (c .if4 .taken))
 
 any-over-requires : tie.Need-any-over-requires
-any-over-requires c κs = sized-room ((fitted-by (c .before .before .before .before .state-refusal .ensures) (c .before .before .before .if1 .left)) .sizes)
+any-over-requires c κs = law.sized-room (fitted (c .before .before .before) .sizes)
+
+-- so do the scratch and k
+asked : (c : tie.Else4) → let a = start (c .before .before .before) .args in
+    refusal (stateLengths (a .n) (length (now (a .edges))) (a .marks) ++ listConditions (a .n) (edge (now (a .edges))) (a .k) (a .scratch))
+    ≡ refusal (crowdedBefore (edge (now (a .edges))) (a .n) everyone ∷ [])
+asked c =
+    let t = c .before in
+    law.fitted-append _ _ _ _ (fitted (t .before .before)) ∙ law.passed-scratch _ _ _ (t .before .if2 .left) ∙ law.passed-listed _ _ _ (t .if3 .left)
+    (c .if4 .left)
 
 returns-5 : tie.Need-returns-5
-returns-5 c =
-    let at-if3 = c .before .before .before in
-    let at-if2 = at-if3 .before in
-    let at-if1 = at-if2 .before in
-    let at-state-refusal = at-if1 .before in
-    sym (fitted-append _ _ _ _ (fitted-by (at-state-refusal .state-refusal .ensures) (at-if1 .if1 .left)) ∙ passed-scratch _ _ _ (at-if2 .if2 .left) ∙ passed-listed _ _ _ (at-if3 .if3 .left) (c .before .before .if4 .left)
-    ∙ refused-before _ _ _ _ (sym (c .before .any-over .ensures) ∙ c .if5 .taken))
+returns-5 c = sym (asked (c .before .before) ∙ law.refused-before _ _ _ _ (sym (c .before .any-over .ensures) ∙ c .if5 .taken))
 
 returns-6 : tie.Need-returns-6
-returns-6 c =
-    let at-if3 = c .before .before .before in
-    let at-if2 = at-if3 .before in
-    let at-if1 = at-if2 .before in
-    let at-state-refusal = at-if1 .before in
-    sym (fitted-append _ _ _ _ (fitted-by (at-state-refusal .state-refusal .ensures) (at-if1 .if1 .left)) ∙ passed-scratch _ _ _ (at-if2 .if2 .left) ∙ passed-listed _ _ _ (at-if3 .if3 .left) (c .before .before .if4 .left)
-    ∙ passed-before _ _ _ _ (sym (c .before .any-over .ensures) ∙ c .if5 .left) ∙ refusal-none)
+returns-6 c = sym (asked (c .before .before) ∙ law.passed-before _ _ _ _ (sym (c .before .any-over .ensures) ∙ c .if5 .left) ∙ law.refusal-none)
 
 pub list-refusal-spec : {M : Type 1} → statement M
 list-refusal-spec =
     tie.close
-    (tie.spec
-    state-refusal-requires
-    returns
-    returns-2
-    returns-3
-    returns-4
-    any-over-requires
-    returns-5
-    returns-6)
+    (tie.spec (λ c κs. search needs) returns returns-2 returns-3 returns-4 any-over-requires returns-5 returns-6)

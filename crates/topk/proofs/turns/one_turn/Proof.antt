@@ -1,108 +1,51 @@
 -- `topk::turns::one_turn` meets its contract. Assumes nothing.
-use mathlib.Core.Path.{_∙_}
-use native.Mathlib.Omega.{arith}
 use borrow.Author.Needs.{needs}
-use denote.Ref.{now}
 use Rattle.topk.proofs.HoldsLaws.{turn-none, turn-stop, turn-take}
-use Rattle.topk.specs.Turns.{truthOf}
 use Rattle.topk.proofs.turns.one_turn.Statement.{statement}
 use Rattle.topk.proofs.turns.one_turn.Tie as tie
 
-next-node-requires : tie.Need-next-node-requires
-next-node-requires c κs = search needs
+-- ---- the places: the call, a node is next, it does not stop the list, it is worked out, it is marked
+abbrev start : tie.After-next-node → tie.Start
+start c = c .before .before .before .before .before .before .before .before
 
-same-length : tie.Need-same-length
-same-length c = search needs
+abbrev node : tie.After-stops-at → tie.Else1
+node c = c .before .before .before
 
-same-length-2 : tie.Need-same-length-2
-same-length-2 c = search needs
+abbrev goes : tie.After-worth-of → tie.Else2
+goes c = c .before .before .before
+
+abbrev worked : tie.After-slice-known7 → tie.After-worth-of
+worked c = c .before .before .before .before .before .before .before .before
+
+abbrev marked : tie.After-slice-known7 → tie.After-put
+marked c = c .before .before .before .before .before .before
 
 returns : tie.Need-returns
-returns c =
-    let s = c .before .before .before .before .before .before .before .before .before in
-    let a = s .args in
-    let n = c .before .next-node in
-    turn-none (truthOf (now (a .edges)) (now (a .figures))) (a .k) (now (a .figures)) (now (a .marks)) (now (a .taken)) (now (a .entries)) (a .kept) (a .recomputed) (n .result) (n .ensures .1) (c .if1 .taken) (omega arith)
-
-mul-f : tie.Need-mul-f
-mul-f c = search needs
-
-slice-read-f : tie.Need-slice-read-f
-slice-read-f c = search needs
-
-stops-at-requires : tie.Need-stops-at-requires
-stops-at-requires c κs = search needs
-
-same-length-3 : tie.Need-same-length-3
-same-length-3 c = search needs
-
-same-length-4 : tie.Need-same-length-4
-same-length-4 c = search needs
-
-same-length-5 : tie.Need-same-length-5
-same-length-5 c = search needs
+returns c = turn-none (start (c .before) .pre) (c .before .next-node .ensures) (c .if1 .taken)
 
 returns-2 : tie.Need-returns-2
 returns-2 c =
-    let at-if1 = c .before .before .before .before in
-    let at-next-node = at-if1 .before in
-    let s = at-next-node .before .before .before .before .before .before .before .before in
-    let a = s .args in
-    let n = at-next-node .next-node in
-    turn-stop (truthOf (now (a .edges)) (now (a .figures))) (a .k) (now (a .figures)) (now (a .marks)) (now (a .taken)) (now (a .entries)) (a .kept) (a .recomputed) (n .result) (n .ensures .1) (at-if1 .if1 .left)
-    (c .before .stops-at .ensures) (c .if2 .taken) (omega arith)
+    let n = node (c .before) in
+    turn-stop (start (n .before) .pre) (n .before .next-node .ensures) (n .if1 .left) (c .before .stops-at .ensures) (c .if2 .taken)
 
-take-node-requires : tie.Need-take-node-requires
-take-node-requires c κs =
-    let at-if1 = c .before .before .before .before .before .before .before .before in
-    let s = at-if1 .before .before .before .before .before .before .before .before .before in
-    (at-if1 .if1 .left, s .pre .0, s .pre .1)
-
-same-length-6 : tie.Need-same-length-6
-same-length-6 c = search needs
-
-same-length-7 : tie.Need-same-length-7
-same-length-7 c = search needs
-
-same-length-8 : tie.Need-same-length-8
-same-length-8 c = search needs
-
-same-length-9 : tie.Need-same-length-9
-same-length-9 c = search needs
+worth-of-requires : tie.Need-worth-of-requires
+worth-of-requires c κs =
+    let n = node (c .before .before .before) in
+    let s = start (n .before) in
+    (n .if1 .left, s .pre .list .workable, s .pre .less)
 
 returns-3 : tie.Need-returns-3
 returns-3 c =
-    let at-take-node = c .before .before .before .before .before .before .before .before in
-    let at-if2 = at-take-node .before .before .before .before .before in
-    let at-stops-at = at-if2 .before in
-    let at-if1 = at-stops-at .before .before .before in
-    let at-next-node = at-if1 .before in
-    let s = at-next-node .before .before .before .before .before .before .before .before in
-    let a = s .args in
-    let n = at-next-node .next-node in
-    let t = at-take-node .take-node in
-    let q = turn-take (truthOf (now (a .edges)) (now (a .figures))) (a .k) (now (a .figures)) (now (a .marks)) (now (a .taken)) (now (a .entries)) (a .kept) (a .recomputed) (n .result) (n .ensures .1) (at-if1 .if1 .left)
-    (at-stops-at .stops-at .ensures) (at-if2 .if2 .left) (t .ensures .1) in
-    (t .ensures .0 ∙ q .0, q .1)
+    let w = worked c in
+    let s = goes w in
+    let n = node (s .before) in
+    turn-take (start (n .before) .pre) (n .before .next-node .ensures) (n .if1 .left) (s .before .stops-at .ensures) (s .if2 .left)
+    (w .worth-of .ensures) (marked c .put .ensures) (c .before .before .insert .ensures)
 
 pub one-turn-spec : {M : Type 1} → statement M
 one-turn-spec =
     tie.close
-    (tie.spec
-    next-node-requires
-    same-length
-    same-length-2
-    returns
-    mul-f
-    slice-read-f
-    stops-at-requires
-    same-length-3
-    same-length-4
-    same-length-5
-    returns-2
-    take-node-requires
-    same-length-6
-    same-length-7
-    same-length-8
-    same-length-9
-    returns-3)
+    (tie.spec (λ c κs. search needs) (λ c. search needs) (λ c. search needs) returns (λ c. search needs) (λ c. search needs)
+    (λ c κs. search needs) (λ c. search needs) (λ c. search needs) (λ c. search needs) returns-2 worth-of-requires (λ c. search needs)
+    (λ c. search needs) (λ c κs. search needs) (λ c. search needs) (λ c κs. search needs) (λ c. search needs) (λ c. search needs)
+    (λ c. search needs) (λ c. search needs) returns-3)

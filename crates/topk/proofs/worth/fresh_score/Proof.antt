@@ -6,9 +6,6 @@ use Rattle.ego.proofs.FoundLaws.{found-ascending, found-degree, found-of, found
 use Rattle.topk.proofs.worth.fresh_score.Statement.{statement}
 use Rattle.topk.proofs.worth.fresh_score.Tie as tie
 
-neighbours-of-requires : tie.Need-neighbours-of-requires
-neighbours-of-requires c κs = search needs
-
 score-of-requires : tie.Need-score-of-requires
 score-of-requires c κs =
     let s = c .before .before .before in
@@ -17,9 +14,10 @@ score-of-requires c κs =
 
 returns : tie.Need-returns
 returns c =
-    let s = c .before .before .before .before in
-    let found = found-of (c .before .before .neighbours-of .ensures) in
+    let near = c .before .before in
+    let s = near .before .before in
+    let found = found-of (near .neighbours-of .ensures) in
     c .score-of .ensures ∙ found-score found (omega (arith, found-degree found, s .pre .1 .few (s .args .p) (s .pre .0)))
 
 pub fresh-score-spec : {M : Type 1} → statement M
-fresh-score-spec = tie.close (tie.spec neighbours-of-requires score-of-requires returns)
+fresh-score-spec = tie.close (tie.spec (λ c κs. search needs) score-of-requires returns)

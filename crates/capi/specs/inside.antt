@@ -1,0 +1,3 @@
+-- What only the contracts inside the library cite: no promise needs it.
+pub mod Requests
+pub mod Writing

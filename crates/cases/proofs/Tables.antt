@@ -1,0 +1,50 @@
+-- The two tables hold: tests that the checker computes, and laws that turn them into the rule at each row. Assumes nothing.
+use mathlib.Core.Bool.{true}
+use mathlib.Core.List.{List·Memᴰ}
+use mathlib.Core.Path.{refl, _≡_}
+use Rattle.arith.specs.Digits.{bitOf, digit, withDigit}
+use Rattle.arith.specs.Rank.{before}
+use Rattle.arith.specs.Sums.{anyTo, sumTo, tabulate}
+use Rattle.cases.proofs.Reflect.{all-at, allOf}
+use Rattle.cases.specs.Cases.{Case, Meets, run, table}
+use Rattle.ego.specs.Bound.{bound}
+use Rattle.ego.specs.Graph.{degree, distance, ego, inner, neighbours, shortest, walks}
+use Rattle.ego.specs.Score.{score, share}
+use Rattle.history.specs.History.{effect}
+use Rattle.merge.specs.Reconcile.{merged, overPairs, overRow, reconcileCall, reconciled, takes}
+use Rattle.packed.specs.Bits.{bitAt, bytesOf, withBit}
+use Rattle.packed.specs.Edges.{edge, withEdge}
+use Rattle.packed.specs.Pairs.{pairCount, pairIndex}
+use Rattle.calls.specs.Clear.{clearCall, cleared}
+use Rattle.edits.specs.Edit.{addCall, added, edited, removeCall, removed, renewed}
+use Rattle.state.specs.Marks.{allExact, allStale, stale, staleTo, withMark}
+use Rattle.state.specs.Outcome.{lengths, outcome}
+use Rattle.state.specs.Refusal.{bufferLength, crowdedAfter, crowdedBefore, edgeAbsent, edgePresent, ends, listLength, nodeCount, nodeNumber, refusal, sameNodes, scratchLength, tooMany, touched, badSnapshot, otherCount, spareSet}
+use Rattle.topk.specs.Entries.{ranksBefore, insert, keep, stops, entriesOf}
+use Rattle.topk.specs.List.{acceptedList, listCall}
+use Rattle.topk.specs.Steps.{step, bestBelow, better, allSteps, stepAt, steps, took, worth}
+use Rattle.calls.specs.Snapshot.{loadCall, loaded}
+use Rattle.cases.specs.Wrong.{Excluded, Wrong, wrongs}
+use Rattle.ego.specs.Change.{withPair}
+use Rattle.history.specs.Model.{below, conditions, model, modelRefusal, ownConditions, wouldHold}
+use Rattle.listing.specs.Records.{entriesCall}
+use Rattle.topk.specs.Ranking.{ranking, worksOut}
+use Rattle.cases.proofs.Table.{met, test-of}
+use Rattle.cases.proofs.Wrong.{excluded, one-fails, sentences, verdict}
+
+computed : (allOf test-of table ≡ true) × (allOf one-fails wrongs ≡ true)
+unfolding test-of one-fails verdict sentences run effect model modelRefusal conditions ownConditions wouldHold below anyTo tabulate sumTo digit bitOf
+    withDigit before bitAt withBit bytesOf pairCount pairIndex edge withEdge withPair degree neighbours bound ego walks distance shortest inner share
+    score stale withMark staleTo allExact allStale refusal nodeCount bufferLength scratchLength nodeNumber sameNodes edgePresent edgeAbsent listLength
+    badSnapshot otherCount spareSet tooMany ends touched crowdedBefore crowdedAfter outcome lengths cleared clearCall loaded loadCall renewed edited
+    added removed addCall removeCall ranksBefore insert keep stops better bestBelow worth took stepAt step steps allSteps acceptedList listCall entriesOf
+    entriesCall ranking worksOut takes overRow overPairs reconciled reconcileCall merged
+computed = (refl, refl)
+
+-- EVERY CASE OF THE TABLE comes out as it must.
+pub cases-met : (c : Case) → List·Memᴰ c table → Meets c
+cases-met c m = met c (all-at test-of table (computed .0) m)
+
+-- EVERY WRONG OUTCOME OF THE TABLE is excluded, by its sentence alone.
+pub wrongs-excluded : {w : Wrong} → List·Memᴰ w wrongs → Excluded w
+wrongs-excluded {w} m = excluded w (all-at one-fails wrongs (computed .1) m)

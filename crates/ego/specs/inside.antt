@@ -1,0 +1,4 @@
+-- What only the contracts inside the library cite: no promise needs it.
+pub mod Derived
+pub mod Gains
+pub mod Words

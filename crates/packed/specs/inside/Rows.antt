@@ -1,0 +1,34 @@
+-- Sets of nodes as words of 32 bits, and the neighbours of a node as such a set. Assumes nothing.
+use mathlib.Core.Bool.{Bool, _&&_}
+use mathlib.Core.List.{List}
+use Prim.Native.Nat.{ℕ, _+_, _-_, _*_, _/_, _%_}
+use lib.Dec.{ltb}
+use lib.ListN.{getD}
+use Rattle.arith.specs.Digits.{bitOf}
+use Rattle.arith.specs.Lists.{filter, range}
+use Rattle.arith.specs.Sums.{packTo, tabulate}
+use Rattle.packed.specs.Pairs.{maxNodes}
+use Rattle.packed.specs.Edges.{edge}
+
+-- node q is in the set: bit 31 - q % 32 of word q / 32
+unfoldable pub inSet : List ℕ → ℕ → Bool
+inSet row q = bitOf (getD row (q / 32) 0) (31 - q % 32)
+
+-- the set of the nodes that pass a test
+unfoldable pub setOf : (ℕ → Bool) → List ℕ
+setOf f = tabulate (λ k. packTo (λ j. f (32 * k + (31 - j))) 32) 8
+
+-- the nodes of a set, in order
+unfoldable pub membersOf : List ℕ → List ℕ
+membersOf row = filter (inSet row) (range 0 maxNodes)
+
+-- node q is in a word whose first node is `first`, and the nodes of the word
+unfoldable pub inWord : ℕ → ℕ → ℕ → Bool
+inWord word first q = bitOf word (first + 31 - q)
+
+unfoldable pub membersIn : ℕ → ℕ → List ℕ
+membersIn word first = filter (inWord word first) (range first 32)
+
+-- the neighbours of p below n
+unfoldable pub rowOf : List ℕ → ℕ → ℕ → List ℕ
+rowOf edges n p = setOf (λ q. ltb q n && edge edges p q)
