@@ -36,16 +36,16 @@ abbrev pub product : List Factor → ℕ
 product [] = 1
 product (f ∷ fs) = product fs * f .b
 
-abbrev pub sound : ℕ → List Factor → Bool
-sound n [] = true
-sound n (f ∷ fs) = ltb 0 (f .b) && (leb (f .b) n && (eqb (f .x * product fs) (f .y * f .b + 1) && sound n fs))
+abbrev pub soundFactors : ℕ → List Factor → Bool
+soundFactors n [] = true
+soundFactors n (f ∷ fs) = ltb 0 (f .b) && (leb (f .b) n && (eqb (f .x * product fs) (f .y * f .b + 1) && soundFactors n fs))
 
-product-divides : (n m : ℕ) (fs : List Factor) → sound n fs ≡ true → Multiple n m → product fs ∣ m
+product-divides : (n m : ℕ) (fs : List Factor) → soundFactors n fs ≡ true → Multiple n m → product fs ∣ m
 product-divides n m [] t h = one-dvd m
 product-divides n m (f ∷ fs) t h =
     let a = and-true (ltb 0 (f .b)) _ t in
     let b = and-true (leb (f .b) n) _ (a .1) in
-    let c = and-true (eqb (f .x * product fs) (f .y * f .b + 1)) (sound n fs) (b .1) in
+    let c = and-true (eqb (f .x * product fs) (f .y * f .b + 1)) (soundFactors n fs) (b .1) in
     coprime-divides (product fs) (f .b) (f .x) (f .y) m (eqb-true _ _ (c .0)) (product-divides n m fs (c .1) h)
     (h (f .b) (ltb-true 0 (f .b) (a .0)) (leb-true (f .b) n (b .0)))
 
@@ -57,7 +57,7 @@ pub multiple-by : (n m : ℕ) → each (divides? m) n ≡ true → Multiple n m
 multiple-by n m t zero h l = absurd (omega arith)
 multiple-by n m t (suc d) h l = dvd-of-mod-eq-zero (suc d) (eqb-true _ 0 (each-at (divides? m) n d t l))
 
-pub least-by : (n m : ℕ) (fs : List Factor) → ltb 0 m ≡ true → each (divides? m) n ≡ true → sound n fs ≡ true → product fs ≡ m → LeastCommonMultiple n m
+pub least-by : (n m : ℕ) (fs : List Factor) → ltb 0 m ≡ true → each (divides? m) n ≡ true → soundFactors n fs ≡ true → product fs ≡ m → LeastCommonMultiple n m
 least-by n m fs p t s e = record {
   positive = ltb-true 0 m p;
   common = multiple-by n m t;

@@ -25,13 +25,13 @@ module _ {A : Type 0} where
         | inr a ↦ inr (Memᴰ·append-right (map (λ w. (z, w)) zs) a)
       ]
 
-pub record Pair (k : ℕ) (xs : List ℕ) (c : ℕ × ℕ) : Type 0 where
+pub record OrderedPair (k : ℕ) (xs : List ℕ) (c : ℕ × ℕ) : Type 0 where
   pub first : List·Memᴰ (c .0) xs
   pub second : List·Memᴰ (c .1) xs
   pub less : c .0 < c .1
   pub two : 2 ≤ length xs
 
-pub mem-pairs : (k : ℕ) (xs : List ℕ) {c : ℕ × ℕ} → Up k xs → List·Memᴰ c (pairs xs) → Pair k xs c
+pub mem-pairs : (k : ℕ) (xs : List ℕ) {c : ℕ × ℕ} → Up k xs → List·Memᴰ c (pairs xs) → OrderedPair k xs c
 mem-pairs k [] u m = absurd (List·Memᴰ·not-nil m)
 mem-pairs k (x ∷ xs) {c} u m =
     elim (List·Memᴰ·append-cases (map (λ y. (x, y)) xs) m) [
@@ -43,7 +43,7 @@ mem-pairs k (x ∷ xs) {c} u m =
             less = omega (arith, mem-up xs (u .1) i, ap (λ t. t .0) e, ap (λ t. t .1) e);
             two = omega (arith, mem-some i);
           }
-      | inr d ↦ let r : Pair (suc x) xs c = mem-pairs (suc x) xs (u .1) d in
+      | inr d ↦ let r : OrderedPair (suc x) xs c = mem-pairs (suc x) xs (u .1) d in
           record { first = List·Memᴰ·tail (r .first); second = List·Memᴰ·tail (r .second); less = r .less; two = omega (arith, r .two) }
     ]
 

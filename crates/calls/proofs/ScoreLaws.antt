@@ -34,30 +34,30 @@ one-over g n p h = elim (test (ltb limit (degree g n p))) [
   ]) ∙ sym t
 ]
 
-abbrev answer : ℕ → ℕ → Scored
-answer refusal score = record { refusal = refusal; score = score }
+abbrev scoredWith : ℕ → ℕ → Scored
+scoredWith refusal score = record { refusal = refusal; score = score }
 
 module _ (edges : List ℕ) (n p : ℕ) where
   abbrev conditions : List Condition
   conditions = nodeNumber n p ∷ crowdedBefore (edge edges) n (eqb p) ∷ []
 
-  refused-with : {r : ℕ} → refusal (edgeLengths n (length edges) ++ conditions) ≡ r → (r ≡ 0 → ⊥) → answer r 0 ≡ scoreCall edges n p
+  refused-with : {r : ℕ} → refusal (edgeLengths n (length edges) ++ conditions) ≡ r → (r ≡ 0 → ⊥) → scoredWith r 0 ≡ scoreCall edges n p
   unfolding scoreCall
   refused-with {r} e d = rw (e, ne-eqb r 0 d)
 
-  pub score-sizes : {r : ℕ} → r ≡ refusal (edgeLengths n (length edges)) → (r ≡ 0 → ⊥) → answer r 0 ≡ scoreCall edges n p
+  pub score-sizes : {r : ℕ} → r ≡ refusal (edgeLengths n (length edges)) → (r ≡ 0 → ⊥) → scoredWith r 0 ≡ scoreCall edges n p
   score-sizes e d = refused-with (append-refused (edgeLengths n (length edges)) conditions (sym e) d) d
 
   module _ (s : Sized n (length edges)) where
-    pub score-node : n ≤ p → answer 4 0 ≡ scoreCall edges n p
+    pub score-node : n ≤ p → scoredWith 4 0 ≡ scoreCall edges n p
     score-node h = refused-with (sized-append n (length edges) conditions s ∙ refused-node _ n p h) (λ e. omega arith)
 
-    pub score-crowded : p < n → limit < degree (edge edges) n p → answer 11 0 ≡ scoreCall edges n p
+    pub score-crowded : p < n → limit < degree (edge edges) n p → scoredWith 11 0 ≡ scoreCall edges n p
     score-crowded h k =
         refused-with (sized-append n (length edges) conditions s ∙ passed-node _ n p h
         ∙ refused-before [] (edge edges) n (eqb p) (one-over (edge edges) n p h ∙ lt-ltb _ _ k)) (λ e. omega arith)
 
-    pub score-accepted : {r : ℕ} → p < n → degree (edge edges) n p ≤ limit → r ≡ score (edge edges) n p → answer 0 r ≡ scoreCall edges n p
+    pub score-accepted : {r : ℕ} → p < n → degree (edge edges) n p ≤ limit → r ≡ score (edge edges) n p → scoredWith 0 r ≡ scoreCall edges n p
     unfolding scoreCall
     score-accepted h k q =
         rw (

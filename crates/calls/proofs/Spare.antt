@@ -99,8 +99,8 @@ module _ {s t : State} (h : Alike s t) (buffer : List ℕ) where
 
 -- ---- score
 
-abbrev scored : ℕ → ℕ → Scored
-scored r grains = record { refusal = r; score = cond (eqb r 0) grains 0 }
+abbrev scoredAs : ℕ → ℕ → Scored
+scoredAs r grains = record { refusal = r; score = cond (eqb r 0) grains 0 }
 
 module _ (n p : ℕ) where
   abbrev conditions : List ℕ → List Condition
@@ -120,6 +120,6 @@ module _ (n p : ℕ) where
     pub score-alike : scoreCall x n p ≡ scoreCall y n p
     unfolding scoreCall
     score-alike = elim (ℕ-discrete (refusal (conditions x)) 0) [
-      | yes z ↦ ap₂ scored score-same (score-agree n p (node-below x z) (same-agree e))
+      | yes z ↦ ap₂ scoredAs score-same (score-agree n p (node-below x z) (same-agree e))
       | no d ↦ rw (← score-same, ne-eqb (refusal (conditions x)) 0 d)
     ]

@@ -16,7 +16,7 @@ pub fn clear(edges: &mut [u8], figures: &mut [u64], marks: &mut [u8]) -> u64
         return refusal;
     }
     packed::bits::zero(edges);
-    figures::zero(figures);
+    figures::set_zero(figures);
     marks::set_exact(marks);
     0
 }

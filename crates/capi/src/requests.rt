@@ -1,68 +1,76 @@
-// A call that writes the state, on figures that are bytes: they are read as numbers, and written back where the call is accepted.
-use crate::figures::decode;
-use crate::figures::encode;
-use calls::clear::clear;
-use edits::edit::add;
-use edits::edit::remove;
-use packed::edges::MAX_NODES;
+// A call that writes the state, on figures that are bytes: only the figures that the call changes are written.
+use crate::figures::renew_bytes;
+use edits::edit::edit;
+use packed::bits::zero;
+use state::marks::set_exact;
 use state::refusal::LENGTH;
 use state::sizes::state_refusal;
 ghost use mathlib.Core.Path.{_≡_};
-ghost use Prim.Native.Nat.{_*_};
 ghost use lib.ListN.{length, replicate};
-ghost use Rattle.packed.specs.Pairs.{maxNodes};
 ghost use Rattle.state.specs.Outcome.{left};
 ghost use Rattle.state.specs.Refusal.{refusal};
 ghost use Rattle.state.specs.Lent.{atEntry, atExit};
+ghost use Rattle.edits.specs.inside.Change.{editCall};
 ghost use Rattle.capi.specs.Calls.{called, ended, lentLengths};
-ghost use Rattle.capi.specs.inside.Requests.{callOf, numbersAfter};
+ghost use Rattle.capi.specs.inside.Requests.{callOf};
 
-// The call that C makes. The posts that it names stand beside it, so that each call is compiled by itself: a clear reads no figures.
+// The call that C makes. The posts that it names stand beside it, so that each call is compiled by itself.
 pub enum Request {
     Clear,
     Add,
     Remove,
 }
 
-// The state's own call, on figures as numbers.
-fn perform(
-    links: &mut [u8],
-    numbers: &mut [u64],
-    marks: &mut [u8],
-    request: Request,
-    a: usize,
-    b: usize,
-) -> u64
-    ensures { λ r. ⌜ left r (atExit links numbers marks) ≡ callOf request a b (atEntry links numbers marks) ⌝ }
+// No links, all figures 0, all settled.
+fn clear_bytes(links: &mut [u8], figures: &mut [u8], marks: &mut [u8])
+    ensures { λ _. ⌜ now (links .exit) ≡ replicate (length (now (links .entry))) 0 ⌝ }
+    ensures { λ _. ⌜ now (figures .exit) ≡ replicate (length (now (figures .entry))) 0 ⌝ }
+    ensures { λ _. ⌜ now (marks .exit) ≡ replicate (length (now (marks .entry))) 0 ⌝ }
 {
-    match request {
-        Request::Clear => clear(links, numbers, marks),
-        Request::Add => add(links, numbers, marks, a, b),
-        Request::Remove => remove(links, numbers, marks, a, b),
-    }
+    zero(links);
+    zero(figures);
+    set_exact(marks);
 }
 
-// The call with room for the figures as numbers, which holds them as the call leaves them.
-fn in_room(
+// An add or a removal on n posts.
+fn edit_bytes(
+    n: usize,
     links: &mut [u8],
     figures: &mut [u8],
     marks: &mut [u8],
-    numbers: &mut [u64],
+    a: usize,
+    b: usize,
+    on: bool,
+) -> u64
+    requires { ⌜ refusal (lentLengths n (length (now links)) (length (now figures)) (length (now marks))) ≡ 0 ⌝ }
+    ensures { λ r. ⌜ left r (atExit links figures marks) ≡ ended (λ s. editCall s a b on) n (atEntry links figures marks) ⌝ }
+{
+    let renewal = edit(links, marks, n, a, b, on);
+    renew_bytes(figures, renewal);
+    renewal.refusal
+}
+
+// The call on what C lends, where the lengths are accepted.
+fn perform(
+    n: usize,
+    links: &mut [u8],
+    figures: &mut [u8],
+    marks: &mut [u8],
     request: Request,
     a: usize,
     b: usize,
 ) -> u64
-    requires { ⌜ length (now figures) ≡ 8 * length (now numbers) ⌝ }
-    ensures { λ r. ⌜ left r (atExit links figures marks) ≡ ended (callOf request a b) (length (now (numbers .entry))) (atEntry links figures marks) ⌝ }
-    ensures { λ _. ⌜ now (numbers .exit) ≡ numbersAfter (callOf request a b) (length (now (numbers .entry))) (atEntry links figures marks) ⌝ }
+    requires { ⌜ refusal (lentLengths n (length (now links)) (length (now figures)) (length (now marks))) ≡ 0 ⌝ }
+    ensures { λ r. ⌜ left r (atExit links figures marks) ≡ ended (callOf request a b) n (atEntry links figures marks) ⌝ }
 {
-    decode(figures, numbers);
-    let refused = perform(links, numbers, marks, request, a, b);
-    if refused != 0 {
-        return refused;
+    match request {
+        Request::Clear => {
+            clear_bytes(links, figures, marks);
+            0
+        }
+        Request::Add => edit_bytes(n, links, figures, marks, a, b, true),
+        Request::Remove => edit_bytes(n, links, figures, marks, a, b, false),
     }
-    encode(numbers, figures);
-    0
 }
 
 // Refusals 1 and 2 of n nodes and the lengths of what is lent.
@@ -78,13 +86,6 @@ fn length_refusal(n: u64, links: usize, figures: usize, marks: usize) -> u64
         return LENGTH;
     }
     0
-}
-
-// Room for the figures of a board as numbers.
-fn room() -> [u64; MAX_NODES]
-    ensures { λ r. ⌜ r ≡ replicate maxNodes 0 ⌝ }
-{
-    [0u64; MAX_NODES]
 }
 
 // The call on what C lends.
@@ -103,13 +104,11 @@ pub(crate) fn on_bytes(
     if lengths != 0 {
         return lengths;
     }
-    let nodes = n as usize;
-    let mut numbers = room();
-    in_room(
+    perform(
+        n as usize,
         links,
         figures,
         marks,
-        &mut numbers[..nodes],
         request,
         a as usize,
         b as usize,

@@ -36,32 +36,32 @@ abbrev inARow : Entries → Bool
 inARow (inRow xs) = true
 inARow (asRecords xs) = false
 
-abbrev rowOf : List ℕ → Entries → List ℕ
-rowOf d (inRow xs) = xs
-rowOf d (asRecords xs) = d
+abbrev numbersOf : List ℕ → Entries → List ℕ
+numbersOf d (inRow xs) = xs
+numbersOf d (asRecords xs) = d
 
 abbrev recordsOf : List Entry → Entries → List Entry
 recordsOf d (inRow xs) = d
 recordsOf d (asRecords xs) = xs
 
 entries-same : (x y : Entries) → Reflects (x ≡ y) (sameEntries x y)
-entries-same (inRow xs) (inRow ys) = said-as (ap inRow) (ap (rowOf xs)) (lists eqb numbers xs ys)
+entries-same (inRow xs) (inRow ys) = said-as (ap inRow) (ap (numbersOf xs)) (lists eqb numbers xs ys)
 entries-same (inRow xs) (asRecords ys) = record { holds = λ e. absurd (true≢false (sym e)); fails = λ e p. true≢false (ap inARow p) }
 entries-same (asRecords xs) (inRow ys) = record { holds = λ e. absurd (true≢false (sym e)); fails = λ e p. true≢false (sym (ap inARow p)) }
 entries-same (asRecords xs) (asRecords ys) = said-as (ap asRecords) (ap (recordsOf xs)) (lists sameEntry entry-same xs ys)
 
 -- ---- what is said of lists and of edits alone
 
-abbrev ofList : Call → (Entries → Bool) → Bool
-ofList clear f = true
-ofList (load snapshot) f = true
-ofList (add a b) f = true
-ofList (remove a b) f = true
-ofList (reconcile theirs base) f = true
-ofList (list entries scratch) f = f entries
+abbrev whereListed : Call → (Entries → Bool) → Bool
+whereListed clear f = true
+whereListed (load snapshot) f = true
+whereListed (add a b) f = true
+whereListed (remove a b) f = true
+whereListed (reconcile theirs base) f = true
+whereListed (list entries scratch) f = f entries
 
 of-list : (call : Call) {P : Entries → Type 0} (f : Entries → Bool) → ((entries : Entries) → Reflects (P entries) (f entries))
-    → Reflects (OfList call P) (ofList call f)
+    → Reflects (OfList call P) (whereListed call f)
 of-list clear f r = always
 of-list (load snapshot) f r = always
 of-list (add a b) f r = always
@@ -90,8 +90,8 @@ of-edit (list entries scratch) f r = always
 
 module _ (n : ℕ) (s : State) (g : Graph) (call : Call) (e : Effect) where
   -- a list that is lent the entries works p out
-  abbrev chosen : Entries → ℕ → Bool
-  chosen entries = worksOut (s .figures) (s .marks) (firstOf n g (room entries))
+  abbrev workedOut : Entries → ℕ → Bool
+  workedOut entries = worksOut (s .figures) (s .marks) (firstOf n g (room entries))
 
   -- p's mark is `mark`, and its figure `value`
   abbrev became : Bool → ℕ → ℕ → Bool
@@ -105,11 +105,11 @@ module _ (n : ℕ) (s : State) (g : Graph) (call : Call) (e : Effect) where
   tested settled = each (λ p. not (Bool·beq (isStale (e .after) p) false) || eqb (figure (e .after) p) (score (model n g call) n p)) n
   tested stale = each (λ p. not (Bool·beq (isStale (e .after) p) true) || leb (score (model n g call) n p) (figure (e .after) p)) n
   tested refusal = eqb (e .answer) (modelRefusal n g call)
-  tested firstK = ofList call (λ entries. not (eqb (e .answer) 0) || sameEntries (e .entries) (filledWith (firstOf n g (room entries)) entries))
-  tested worked = ofList call (λ entries. not (eqb (e .answer) 0) || eqb (e .recomputed) (countTo (chosen entries) n))
-  tested settles = ofList call (λ entries. not (eqb (e .answer) 0) || each (λ p. not (Bool·beq (chosen entries p) true) || became false (score g n p) p) n)
-  tested others = ofList call (λ entries. not (eqb (e .answer) 0)
-      || each (λ p. not (Bool·beq (chosen entries p) false) || became (isStale s p) (figure s p) p) n)
+  tested firstK = whereListed call (λ entries. not (eqb (e .answer) 0) || sameEntries (e .entries) (filledWith (firstOf n g (room entries)) entries))
+  tested worked = whereListed call (λ entries. not (eqb (e .answer) 0) || eqb (e .recomputed) (countTo (workedOut entries) n))
+  tested settles = whereListed call (λ entries. not (eqb (e .answer) 0) || each (λ p. not (Bool·beq (workedOut entries p) true) || became false (score g n p) p) n)
+  tested others = whereListed call (λ entries. not (eqb (e .answer) 0)
+      || each (λ p. not (Bool·beq (workedOut entries p) false) || became (isStale s p) (figure s p) p) n)
   tested edits = ofEdit call (λ a b. each (λ p. not (Bool·beq (touched g a b p) false) || became (isStale s p) (figure s p) p) n)
   tested nodes = eqb (size (e .after)) n
 

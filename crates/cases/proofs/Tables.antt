@@ -6,7 +6,7 @@ use Rattle.arith.specs.Digits.{bitOf, digit, withDigit}
 use Rattle.arith.specs.Rank.{before}
 use Rattle.arith.specs.Sums.{anyTo, sumTo, tabulate}
 use Rattle.cases.proofs.Reflect.{all-at, allOf}
-use Rattle.cases.specs.Cases.{Case, Meets, run, table}
+use Rattle.cases.specs.Cases.{Case, Meets, runCalls, table}
 use Rattle.ego.specs.Bound.{bound}
 use Rattle.ego.specs.Graph.{degree, distance, ego, inner, neighbours, shortest, walks}
 use Rattle.ego.specs.Score.{score, share}
@@ -33,7 +33,7 @@ use Rattle.cases.proofs.Table.{met, test-of}
 use Rattle.cases.proofs.Wrong.{excluded, one-fails, sentences, verdict}
 
 computed : (allOf test-of table ≡ true) × (allOf one-fails wrongs ≡ true)
-unfolding test-of one-fails verdict sentences run effect model modelRefusal conditions ownConditions wouldHold below anyTo tabulate sumTo digit bitOf
+unfolding test-of one-fails verdict sentences runCalls effect model modelRefusal conditions ownConditions wouldHold below anyTo tabulate sumTo digit bitOf
     withDigit before bitAt withBit bytesOf pairCount pairIndex edge withEdge withPair degree neighbours bound ego walks distance shortest inner share
     score stale withMark staleTo allExact allStale refusal nodeCount bufferLength scratchLength nodeNumber sameNodes edgePresent edgeAbsent listLength
     badSnapshot otherCount spareSet tooMany ends touched crowdedBefore crowdedAfter outcome lengths cleared clearCall loaded loadCall renewed edited

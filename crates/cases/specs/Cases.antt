@@ -25,12 +25,12 @@ pub record Case : Type 0 where
 abbrev pub unclean : ℕ → State
 unclean n = state (replicate (edgeBytes n) 255) (replicate n 7) (replicate (markBytes n) 255)
 
-unfoldable pub run : State → List Call → State
-run s [] = s
-run s (call ∷ calls) = run (stateAfter s call) calls
+unfoldable pub runCalls : State → List Call → State
+runCalls s [] = s
+runCalls s (call ∷ calls) = runCalls (stateAfter s call) calls
 
 abbrev pub stateReached : Case → State
-stateReached c = run (unclean (c .nodes)) (clear ∷ c .calls)
+stateReached c = runCalls (unclean (c .nodes)) (clear ∷ c .calls)
 
 -- what must come out
 pub record Meets (c : Case) : Type 0 where

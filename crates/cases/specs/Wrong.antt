@@ -11,7 +11,7 @@ use Rattle.state.specs.State.{State, state}
 use Rattle.topk.specs.Entries.{entry}
 use Rattle.history.specs.Model.{Call, clear, load, add, remove, list, Entries, inRow, asRecords, noPairs, model}
 use Rattle.history.specs.History.{Effect, effect, Sentence, links, settled, stale, refusal, firstK, worked, settles, others, edits, nodes, Says}
-use Rattle.cases.specs.Cases.{run, unclean}
+use Rattle.cases.specs.Cases.{runCalls, unclean}
 
 -- A history on some number of posts, the call after it, and what a wrong program makes of the call's effect; `breaks` is the sentence that excludes it.
 pub record Wrong : Type 0 where
@@ -23,7 +23,7 @@ pub record Wrong : Type 0 where
 
 -- the state that the call finds, and the model's pairs before it
 abbrev pub found : Wrong → State
-found w = run (unclean (w .posts)) (w .history)
+found w = runCalls (unclean (w .posts)) (w .history)
 
 abbrev pub models : ℕ → Graph → List Call → Graph
 models n g [] = g
@@ -75,8 +75,8 @@ wrong breaks posts history call wrongly = record { breaks = breaks; posts = post
 abbrev pub ring : List Call
 ring = load (3 ∷ 0xB4 ∷ []) ∷ []
 
-abbrev pub two : Call
-two = list (inRow (9 ∷ 9 ∷ 9 ∷ 9 ∷ [])) (9 ∷ 9 ∷ 9 ∷ 9 ∷ [])
+abbrev pub listOfTwo : Call
+listOfTwo = list (inRow (9 ∷ 9 ∷ 9 ∷ 9 ∷ [])) (9 ∷ 9 ∷ 9 ∷ 9 ∷ [])
 
 abbrev pub twoRecords : Call
 twoRecords = list (asRecords (entry 9 9 ∷ entry 9 9 ∷ [])) (9 ∷ 9 ∷ 9 ∷ 9 ∷ [])
@@ -92,17 +92,17 @@ wrongs =
     -- Refusal 4 for 5.
     wrong refusal 3 (clear ∷ []) (add 0 0) (answering 4) ∷
     -- The first two exchanged at a tie.
-    wrong firstK 4 ring two (withEntries (inRow (1 ∷ unit ∷ 0 ∷ unit ∷ []))) ∷
+    wrong firstK 4 ring listOfTwo (withEntries (inRow (1 ∷ unit ∷ 0 ∷ unit ∷ []))) ∷
     wrong firstK 4 ring twoRecords (withEntries (asRecords (entry 1 unit ∷ entry 0 unit ∷ []))) ∷
     -- A worked count one too many.
-    wrong worked 4 ring two overcounting ∷
+    wrong worked 4 ring listOfTwo overcounting ∷
     wrong worked 4 ring twoRecords overcounting ∷
     -- A post worked out and not settled.
-    wrong settles 4 ring two (marked 0 true) ∷
+    wrong settles 4 ring listOfTwo (marked 0 true) ∷
     wrong settles 4 ring twoRecords (marked 1 true) ∷
     -- Another post's mark, or figure, changed by a list.
-    wrong others 4 ring two (marked 3 false) ∷
-    wrong others 4 ring two (figured 3 (unit + 1)) ∷
+    wrong others 4 ring listOfTwo (marked 3 false) ∷
+    wrong others 4 ring listOfTwo (figured 3 (unit + 1)) ∷
     wrong others 4 ring twoRecords (marked 2 false) ∷
     -- Another post's mark, or figure, changed by an add, and by a removal.
     wrong edits 4 (clear ∷ []) (add 0 1) (marked 3 true) ∷

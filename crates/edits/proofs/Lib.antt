@@ -3,6 +3,7 @@ pub mod EditLaws
 pub mod HonestLaws
 pub mod ListedLaws
 pub mod NamedLaws
+pub mod RenewalLaws
 pub mod SameRefusal
 pub mod Sound
 pub mod Spare

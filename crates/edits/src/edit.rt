@@ -1,17 +1,19 @@
 // The calls that add and remove an edge. Where both do the same, `on` is true for an add and false for a removal.
+use crate::renewal::Renewal;
+use crate::renewal::refused;
+use crate::renewal::renew;
 use crate::touched::MAX_TOUCHED;
 use crate::touched::Touched;
 use crate::touched::degrees_counted;
 use crate::touched::degrees_in;
 use crate::touched::touched_of;
-use ego::bound::bound_at;
 use ego::limits::LIMIT;
 use ego::neighbours::neighbours_of;
 use packed::degrees::shift;
 use packed::edges::has;
 use packed::edges::link;
 use state::crowded::any_among;
-use state::marks::put;
+use state::marks::set_mark;
 use state::refusal::CROWDED_AFTER;
 use state::refusal::CROWDED_BEFORE;
 use state::refusal::EDGE_ABSENT;
@@ -21,21 +23,20 @@ use state::refusal::SAME_NODE;
 use state::sizes::state_refusal;
 ghost use mathlib.Core.Path.{_≡_};
 ghost use mathlib.Core.Bool.{cond};
-ghost use Prim.Native.Nat.{ℕ, _+_, _≤_, _<_};
+ghost use Prim.Native.Nat.{_+_, _≤_, max};
 ghost use lib.Dec.{ltb};
 ghost use lib.ListN.{length, getD};
 ghost use Rattle.arith.specs.Sums.{anyTo};
 ghost use Rattle.packed.specs.inside.Room.{Room};
-ghost use Rattle.packed.specs.Pairs.{maxNodes};
-ghost use Rattle.packed.specs.Edges.{edge};
+ghost use Rattle.packed.specs.Edges.{edge, withEdge};
 ghost use Rattle.packed.specs.inside.Degrees.{degreesOf, shifted, Shiftable};
 ghost use Rattle.ego.specs.Limits.{limit};
-ghost use Rattle.state.specs.Marks.{markBytes};
 ghost use Rattle.state.specs.Refusal.{refusal};
 ghost use Rattle.state.specs.Outcome.{left};
 ghost use Rattle.state.specs.Lent.{atEntry, atExit, lent};
-ghost use Rattle.edits.specs.inside.Touched.{maxTouched, staleEach, boundEach, Among};
-ghost use Rattle.edits.specs.inside.Change.{pairConditions, changeCall, editCall, Changeable, Steppable, Editable, changed};
+ghost use Rattle.edits.specs.inside.Touched.{maxTouched, staleEach, Markable};
+ghost use Rattle.edits.specs.inside.Renewal.{renewalBy};
+ghost use Rattle.edits.specs.inside.Change.{changed, Changeable, Changes, editCall, Edits, pairConditions, Steppable};
 ghost use Rattle.edits.specs.Edit.{addCall, removeCall};
 
 // Refusals 4 and 5 of a pair; 6 of an add, 7 of a removal.
@@ -81,27 +82,11 @@ fn after_edit(degrees: [u16; MAX_TOUCHED], on: bool) -> [u16; MAX_TOUCHED]
 
 // Marks the first `count` nodes stale.
 fn mark_each(marks: &mut [u8], nodes: [u8; MAX_TOUCHED], count: usize)
-    requires { ⌜ Among nodes count maxNodes × ((i : ℕ) → i < count → markBytes (getD nodes i 0 + 1) ≤ length (now marks)) ⌝ }
+    requires { ⌜ Markable nodes count (now marks) ⌝ }
     ensures { λ _. ⌜ now (marks .exit) ≡ staleEach nodes (now (marks .entry)) count ⌝ }
 {
     for i in 0..count {
-        put(marks, nodes[i] as usize, true);
-    }
-}
-
-// The first `count` nodes take the bounds of their degrees.
-fn bound_each(
-    figures: &mut [u64],
-    nodes: [u8; MAX_TOUCHED],
-    degrees: [u16; MAX_TOUCHED],
-    count: usize,
-)
-    requires { ⌜ Among nodes count (length (now figures)) × ((i : ℕ) → i < count → getD degrees i 0 ≤ limit) ⌝ }
-    ensures { λ _. ⌜ now (figures .exit) ≡ boundEach nodes degrees (now (figures .entry)) count ⌝ }
-{
-    for i in 0..count {
-        let p = nodes[i] as usize;
-        figures[p] = bound_at(degrees[i] as u64);
+        set_mark(marks, nodes[i] as usize, true);
     }
 }
 
@@ -115,30 +100,74 @@ fn renewed_count(on: bool, count: usize) -> usize
     count
 }
 
-// Makes an edit that is accepted, from the nodes that it touches and their degrees after it.
+// Sets or clears the edge, marks the nodes that it touches, and names those that are renewed, with their degrees after it.
 fn apply(
     edges: &mut [u8],
-    figures: &mut [u64],
     marks: &mut [u8],
     a: usize,
     b: usize,
     on: bool,
     touching: Touched,
     degrees: [u16; MAX_TOUCHED],
-)
-    requires { ⌜ Editable (lent edges figures marks) a b on touching degrees ⌝ }
-    ensures { λ _. ⌜ atExit edges figures marks ≡ changed (atEntry edges figures marks) a b on ⌝ }
+) -> Renewal
+    requires { ⌜ Room (max a b + 1) (now edges) × Markable (touching .nodes) (touching .count) (now marks) ⌝ }
+    ensures { λ r. ⌜ r ≡ renewalBy on touching degrees ⌝ }
+    ensures { λ _. ⌜ now (edges .exit) ≡ withEdge (now (edges .entry)) a b on ⌝ }
+    ensures { λ _. ⌜ now (marks .exit) ≡ staleEach (touching .nodes) (now (marks .entry)) (touching .count) ⌝ }
 {
     let nodes = touching.nodes;
     let count = touching.count;
-    let renewed = renewed_count(on, count);
     link(edges, a, b, on);
     mark_each(marks, nodes, count);
-    bound_each(figures, nodes, degrees, renewed);
+    Renewal {
+        refusal: 0,
+        nodes,
+        degrees,
+        count: renewed_count(on, count),
+    }
 }
 
 // Makes an edit whose lengths and pair are accepted, unless a node has too many edges: refusals 11 and 12. A removal leaves no end more edges.
-fn change(
+fn change(edges: &mut [u8], marks: &mut [u8], n: usize, a: usize, b: usize, on: bool) -> Renewal
+    requires { ⌜ Changeable (now edges) (now marks) n a b on ⌝ }
+    ensures { λ r. ⌜ Changes (now (edges .entry)) (now (marks .entry)) n a b on r (now (edges .exit)) (now (marks .exit)) ⌝ }
+{
+    let near = neighbours_of(edges, n, a);
+    let first = near.count;
+    if LIMIT < first {
+        return refused(CROWDED_BEFORE);
+    }
+    let touching = touched_of(edges, near, a, b);
+    let count = touching.count;
+    let nodes = touching.nodes;
+    let before = degrees_counted(edges, n, nodes, first, count);
+    if any_above(before, count) {
+        return refused(CROWDED_BEFORE);
+    }
+    let after = after_edit(before, on);
+    if any_above(after, 2) {
+        return refused(CROWDED_AFTER);
+    }
+    apply(edges, marks, a, b, on, touching, after)
+}
+
+// An add or a removal, with all its refusals, of the edges and marks of n nodes. The figures are left to be renewed.
+pub fn edit(edges: &mut [u8], marks: &mut [u8], n: usize, a: usize, b: usize, on: bool) -> Renewal
+    ensures { λ r. ⌜ Edits (now (edges .entry)) (now (marks .entry)) n a b on r (now (edges .exit)) (now (marks .exit)) ⌝ }
+{
+    let lengths = state_refusal(n, edges.len(), marks.len());
+    if lengths != 0 {
+        return refused(lengths);
+    }
+    let pair = pair_refusal(edges, n, a, b, on);
+    if pair != 0 {
+        return refused(pair);
+    }
+    change(edges, marks, n, a, b, on)
+}
+
+// The same, and the figures with it.
+fn edit_state(
     edges: &mut [u8],
     figures: &mut [u64],
     marks: &mut [u8],
@@ -146,32 +175,29 @@ fn change(
     b: usize,
     on: bool,
 ) -> u64
-    requires { ⌜ Changeable (lent edges figures marks) a b on ⌝ }
-    ensures { λ r. ⌜ left r (atExit edges figures marks) ≡ changeCall (atEntry edges figures marks) a b on ⌝ }
+    ensures { λ r. ⌜ left r (atExit edges figures marks) ≡ editCall (atEntry edges figures marks) a b on ⌝ }
 {
-    let n = figures.len();
-    let near = neighbours_of(edges, n, a);
-    let first = near.count;
-    if LIMIT < first {
-        return CROWDED_BEFORE;
-    }
-    let touching = touched_of(edges, near, a, b);
-    let count = touching.count;
-    let nodes = touching.nodes;
-    let before = degrees_counted(edges, n, nodes, first, count);
-    if any_above(before, count) {
-        return CROWDED_BEFORE;
-    }
-    let after = after_edit(before, on);
-    if any_above(after, 2) {
-        return CROWDED_AFTER;
-    }
-    apply(edges, figures, marks, a, b, on, touching, after);
-    0
+    let renewal = edit(edges, marks, figures.len(), a, b, on);
+    renew(figures, renewal);
+    renewal.refusal
+}
+
+// Adds the edge a, b. Both ends take their bounds; they and their common neighbours become stale.
+pub fn add(edges: &mut [u8], figures: &mut [u64], marks: &mut [u8], a: usize, b: usize) -> u64
+    ensures { λ r. ⌜ left r (atExit edges figures marks) ≡ addCall (atEntry edges figures marks) a b ⌝ }
+{
+    edit_state(edges, figures, marks, a, b, true)
+}
+
+// Removes the edge a, b. Both ends and their common neighbours take their bounds and become stale.
+pub fn remove(edges: &mut [u8], figures: &mut [u64], marks: &mut [u8], a: usize, b: usize) -> u64
+    ensures { λ r. ⌜ left r (atExit edges figures marks) ≡ removeCall (atEntry edges figures marks) a b ⌝ }
+{
+    edit_state(edges, figures, marks, a, b, false)
 }
 
 // An edit that no node's edges refuse, where a table has the degrees of all nodes; the table has the degrees after it when it returns.
-pub fn step(
+pub fn edit_step(
     edges: &mut [u8],
     figures: &mut [u64],
     marks: &mut [u8],
@@ -188,43 +214,6 @@ pub fn step(
     let touching = touched_of(edges, neighbours_of(edges, n, a), a, b);
     shift(degrees, a, b, on);
     let nodes = touching.nodes;
-    let renewed = degrees_in(degrees, nodes, touching.count);
-    apply(edges, figures, marks, a, b, on, touching, renewed);
-}
-
-// An add or a removal, with all its refusals.
-fn edit(
-    edges: &mut [u8],
-    figures: &mut [u64],
-    marks: &mut [u8],
-    a: usize,
-    b: usize,
-    on: bool,
-) -> u64
-    ensures { λ r. ⌜ left r (atExit edges figures marks) ≡ editCall (atEntry edges figures marks) a b on ⌝ }
-{
-    let n = figures.len();
-    let lengths = state_refusal(n, edges.len(), marks.len());
-    if lengths != 0 {
-        return lengths;
-    }
-    let pair = pair_refusal(edges, n, a, b, on);
-    if pair != 0 {
-        return pair;
-    }
-    change(edges, figures, marks, a, b, on)
-}
-
-// Adds the edge a, b. Both ends take their bounds; they and their common neighbours become stale.
-pub fn add(edges: &mut [u8], figures: &mut [u64], marks: &mut [u8], a: usize, b: usize) -> u64
-    ensures { λ r. ⌜ left r (atExit edges figures marks) ≡ addCall (atEntry edges figures marks) a b ⌝ }
-{
-    edit(edges, figures, marks, a, b, true)
-}
-
-// Removes the edge a, b. Both ends and their common neighbours take their bounds and become stale.
-pub fn remove(edges: &mut [u8], figures: &mut [u64], marks: &mut [u8], a: usize, b: usize) -> u64
-    ensures { λ r. ⌜ left r (atExit edges figures marks) ≡ removeCall (atEntry edges figures marks) a b ⌝ }
-{
-    edit(edges, figures, marks, a, b, false)
+    let counted = degrees_in(degrees, nodes, touching.count);
+    renew(figures, apply(edges, marks, a, b, on, touching, counted));
 }

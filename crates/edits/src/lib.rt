@@ -1,3 +1,4 @@
 // The calls that add and remove an edge.
 pub mod edit;
+pub mod renewal;
 pub mod touched;

@@ -9,14 +9,14 @@ use Rattle.ego.specs.Limits.{unit}
 use Rattle.ego.specs.Score.{score, share}
 
 -- the edges of a list
-abbrev listed : List (ℕ × ℕ) → Graph
-listed [] a b = false
-listed ((x, y) ∷ l) a b = eqb a x && eqb b y || (eqb a y && eqb b x || listed l a b)
+abbrev graphOf : List (ℕ × ℕ) → Graph
+graphOf [] a b = false
+graphOf ((x, y) ∷ l) a b = eqb a x && eqb b y || (eqb a y && eqb b x || graphOf l a b)
 
 -- a score by the definition
 scored : List (ℕ × ℕ) → ℕ → ℕ → ℕ
 unfolding score share shortest distance walks ego neighbours inner
-scored l n p = score (listed l) n p
+scored l n p = score (graphOf l) n p
 
 -- a star: the middle lies between each two of the others
 abbrev star : List (ℕ × ℕ)
@@ -46,7 +46,7 @@ almost-each : scored almost 4 0 ∷ scored almost 4 1 ∷ scored almost 4 2 ∷ 
 unfolding scored
 almost-each = refl
 
-almost-paths : shortest (listed almost) (ego (listed almost) 4 0) 2 3 ≡ (2 ∷ 0 ∷ 3 ∷ []) ∷ (2 ∷ 1 ∷ 3 ∷ []) ∷ []
+almost-paths : shortest (graphOf almost) (ego (graphOf almost) 4 0) 2 3 ≡ (2 ∷ 0 ∷ 3 ∷ []) ∷ (2 ∷ 1 ∷ 3 ∷ []) ∷ []
 unfolding shortest distance walks ego neighbours
 almost-paths = refl
 

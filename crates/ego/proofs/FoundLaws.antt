@@ -2,7 +2,7 @@
 use mathlib.Core.Bool.{_&&_}
 use mathlib.Core.List.{[], List}
 use mathlib.Core.Path.{ap, ap₂, refl, sym, _∙_, _≡_}
-use Prim.Native.Nat.{_+_, _<_, ℕ, _≤_}
+use Prim.Native.Nat.{_*_, _+_, _<_, ℕ, _≤_}
 use native.Mathlib.Nat.{zero-add}
 use native.Mathlib.Omega.{arith}
 use lib.ListN.{getD, length, replicate}
@@ -25,7 +25,7 @@ use Rattle.ego.specs.declared.neighbours.Neighbours.{Neighbours}
 use Rattle.packed.proofs.EdgeLaws.{edge-comm, edge-self}
 use Rattle.packed.proofs.PairLaws.{room-mono}
 use Rattle.packed.proofs.SetLaws.{row-members}
-use Rattle.packed.specs.inside.Rows.{membersOf, rowOf}
+use Rattle.packed.specs.inside.Rows.{membersOf, rowOf, wordsFor}
 use Rattle.packed.specs.Edges.{edge}
 use Rattle.packed.specs.Pairs.{maxNodes}
 use Rattle.packed.specs.inside.Room.{Room}
@@ -52,12 +52,12 @@ found-few {es} {q = q} {p = p} f = omega (arith, f .all, count-most (edge es p) 
 -- ---- the struct that holds what was found
 
 -- the members of p's row, written to an array
-pub found-is : (es : List ℕ) (n p : ℕ) {row nodes : List ℕ} {count : ℕ} → n ≤ maxNodes → row ≡ rowOf es n p
-    → (nodes ≡ sets (replicate limit 0) 0 (membersOf row)) × (count ≡ 0 + length (membersOf row))
+pub found-is : (es : List ℕ) (n p : ℕ) {row nodes : List ℕ} {words count : ℕ} → n ≤ maxNodes → row ≡ rowOf es n p → words ≡ wordsFor n
+    → (nodes ≡ sets (replicate limit 0) 0 (membersOf row (32 * words))) × (count ≡ 0 + length (membersOf row (32 * words)))
     → _≡_ {A = Neighbours} (record { nodes = nodes; count = count }) (firstNeighbours es n p)
 unfolding degree firstNeighbours neighbours
-found-is es n p h e w =
-    let all = ap membersOf e ∙ row-members es n p h in
+found-is es n p h e m w =
+    let all = ap₂ (λ row words. membersOf row (32 * words)) e m ∙ row-members es n p (32 * wordsFor n) (omega arith) (omega arith) in
     rw (w .0 ∙ ap₂ (λ l xs. sets l 0 xs) (padded-none limit) all ∙ sets-padded limit [] (neighbours (edge es) n p), w .1 ∙ zero-add _ ∙ ap length all)
 
 pub found-of : {es : List ℕ} {n p : ℕ} {r : Neighbours} → r ≡ firstNeighbours es n p → Found es n p (r .nodes) (r .count)

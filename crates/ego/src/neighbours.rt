@@ -2,6 +2,7 @@
 use crate::limits::LIMIT;
 use packed::rows::append;
 use packed::rows::row_of;
+use packed::rows::words_for;
 ghost use mathlib.Core.Path.{_≡_};
 ghost use Prim.Native.Nat.{_<_};
 ghost use Rattle.packed.specs.inside.Room.{Room};
@@ -19,6 +20,6 @@ pub fn neighbours_of(edges: &[u8], n: usize, p: usize) -> Neighbours
     ensures { λ r. ⌜ r ≡ firstNeighbours (now (edges .entry)) n p ⌝ }
 {
     let mut nodes = [0u8; LIMIT];
-    let count = append(row_of(edges, n, p), &mut nodes, 0);
+    let count = append(row_of(edges, n, p), words_for(n), &mut nodes, 0);
     Neighbours { nodes, count }
 }

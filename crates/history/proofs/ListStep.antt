@@ -23,7 +23,7 @@ use Rattle.state.specs.Marks.{stale}
 use Rattle.state.specs.Refusal.{everyone, refusal}
 use Rattle.state.specs.State.{figure, graph, isStale, size, State}
 use Rattle.listing.proofs.RecordLaws.{entries-refused, entries-taken}
-use Rattle.topk.proofs.ListLaws.{call-refused, call-taken, conditions-pass, ranOf, refusalOf}
+use Rattle.topk.proofs.ListLaws.{call-taken, conditions-pass, list-call-refused, ranOf, refusalOf}
 use Rattle.topk.proofs.Theorem.{all-steps-right}
 use Rattle.topk.proofs.TurnLaws.{all-steps-figures, all-steps-marks}
 use Rattle.topk.specs.List.{listConditions, listOf, wanted}
@@ -42,7 +42,7 @@ list-refused : (s : State) (entries : Entries) (scratch : List ℕ) → (refusal
     → effect s (list entries scratch)
     ≡ record { answer = refusalOf s scratch (room entries); after = s; recomputed = 0; entries = entries; scratch = scratch }
 unfolding effect
-list-refused s (inRow numbers) scratch d = ap (ofList inRow) (call-refused s scratch numbers (wanted numbers) refl d)
+list-refused s (inRow numbers) scratch d = ap (ofList inRow) (list-call-refused s scratch numbers (wanted numbers) refl d)
 list-refused s (asRecords records) scratch d = ap (ofList asRecords) (entries-refused s scratch records d)
 
 list-runs : (s : State) (entries : Entries) (scratch : List ℕ) → refusalOf s scratch (room entries) ≡ 0 → let run = listOf s (room entries) in
@@ -82,13 +82,13 @@ module _ (s : State) (g : Graph) (h : Sound (size s) g s) (entries : Entries) (s
     kept-first : run .kept ≡ firstOf (size s) g k
     kept-first = right .kept ∙ ap (take k) (ranking-ext (score (graph s) (size s)) (score g (size s)) (size s) (λ p l. sound-score h p l))
 
-    abbrev chosen : ℕ → Bool
-    chosen = worksOut (s .figures) (s .marks) (firstOf (size s) g k)
+    abbrev workedOut : ℕ → Bool
+    workedOut = worksOut (s .figures) (s .marks) (firstOf (size s) g k)
 
-    figure-is : (p : ℕ) → p < size s → getD (run .figures) p 0 ≡ cond (chosen p) (score g (size s) p) (figure s p)
+    figure-is : (p : ℕ) → p < size s → getD (run .figures) p 0 ≡ cond (workedOut p) (score g (size s) p) (figure s p)
     figure-is p l = rw (kept-first, sound-score h p l) at (right .figuresAre p l)
 
-    mark-is : (p : ℕ) → p < size s → stale (run .marks) p ≡ (isStale s p && not (chosen p))
+    mark-is : (p : ℕ) → p < size s → stale (run .marks) p ≡ (isStale s p && not (workedOut p))
     mark-is p l = rw kept-first at (right .marksAre p l)
 
     list-sound : Sound (size s) g (ranOf s k)
@@ -108,13 +108,13 @@ module _ (s : State) (g : Graph) (h : Sound (size s) g s) (entries : Entries) (s
         below p l = omega (arith, all-steps-figures (score (graph s) (size s)) k (s .figures) (s .marks))
 
         settled : (p : ℕ) → p < size s → stale (run .marks) p ≡ false → getD (run .figures) p 0 ≡ score (graph s) (size s) p
-        settled p l e = elim (test (chosen p)) [
+        settled p l e = elim (test (workedOut p)) [
           | inl w ↦ figure-is p l ∙ rw w (sym (sound-score h p l))
           | inr w ↦ figure-is p l ∙ rw w (h .honest .settled p l (sym (mark-is p l ∙ rw w (and-comm (isStale s p) true)) ∙ e))
         ]
 
         above : (p : ℕ) → p < size s → score (graph s) (size s) p ≤ getD (run .figures) p 0
-        above p l = elim (test (chosen p)) [
+        above p l = elim (test (workedOut p)) [
           | inl w ↦ rw (figure-is p l, w, sound-score h p l) (le-refl _)
           | inr w ↦ rw (figure-is p l, w) (h .honest .above p l)
         ]

@@ -31,8 +31,8 @@ use Rattle.state.specs.Refusal.{Condition, ends, refusal, snapshotEdges, touche
 use Rattle.calls.specs.Snapshot.{loadCall, loaded}
 use Rattle.state.specs.State.{graph, size, State}
 
-abbrev Fits : State → Type 0
-Fits s = Fitted (size s) (length (s .edges)) (length (s .marks))
+abbrev StateFits : State → Type 0
+StateFits s = Fitted (size s) (length (s .edges)) (length (s .marks))
 
 -- ---- the model's pairs are of nodes below n
 
@@ -41,13 +41,13 @@ unfolding below
 below-agree n g a b ha hb = rw (lt-ltb a n ha, lt-ltb b n hb)
 
 -- where the model's lengths fit, condition 1 lets every call pass
-asked-own : (s : State) (g : Graph) (call : Call) → Fits s → modelRefusal (size s) g call ≡ refusal (ownConditions (size s) g call)
+asked-own : (s : State) (g : Graph) (call : Call) → StateFits s → modelRefusal (size s) g call ≡ refusal (ownConditions (size s) g call)
 unfolding modelRefusal conditions
 asked-own s g call f = passed-count (ownConditions (size s) g call) (size s) (λ e. omega (arith, f .sizes .some)) (f .sizes .few)
 
 -- ---- a call that leaves an outcome: `t` where nothing turns it back, by conditions that decide as the model's own do
 
-module _ (s : State) (fits : Fits s) (g : Graph) (call : Call) (cs : List Condition) (t : State)
+module _ (s : State) (fits : StateFits s) (g : Graph) (call : Call) (cs : List Condition) (t : State)
     (is : effect s call ≡ ofState (outcome (lengths s ++ cs) s t)) (same : refusal cs ≡ refusal (ownConditions (size s) g call)) where
   abbrev asked : ℕ
   asked = modelRefusal (size s) g call
@@ -93,16 +93,16 @@ load-is s snapshot g = refl
 
 -- where one of them is accepted, the lengths fit
 outcome-fits : (s : State) (call : Call) (cs : List Condition) (t : State) → effect s call ≡ ofState (outcome (lengths s ++ cs) s t)
-    → answer s call ≡ 0 → Fits s
+    → answer s call ≡ 0 → StateFits s
 outcome-fits s call cs t is z = lengths-fit s cs (sym (outcome-refusal (lengths s ++ cs) s t) ∙ sym (ap (λ e. e .answer) is) ∙ z)
 
-pub clear-fits : (s : State) → answer s clear ≡ 0 → Fits s
+pub clear-fits : (s : State) → answer s clear ≡ 0 → StateFits s
 clear-fits s = outcome-fits s clear [] _ (clear-is s)
 
-pub load-fits : (s : State) (snapshot : List ℕ) → answer s (load snapshot) ≡ 0 → Fits s
+pub load-fits : (s : State) (snapshot : List ℕ) → answer s (load snapshot) ≡ 0 → StateFits s
 load-fits s snapshot = outcome-fits s (load snapshot) _ _ (load-is s snapshot (graph s))
 
-module _ (s : State) (g : Graph) (fits : Fits s) where
+module _ (s : State) (g : Graph) (fits : StateFits s) where
   abbrev n : ℕ
   n = size s
 
@@ -132,7 +132,7 @@ module _ (s : State) (g : Graph) (fits : Fits s) where
 -- ---- the calls on a sound state
 
 module _ (s : State) (g : Graph) (h : Sound (size s) g s) where
-  fits : Fits s
+  fits : StateFits s
   fits = h .shows .fits
 
   links : Agree (size s) (graph s) g
@@ -209,10 +209,10 @@ module _ (s : State) (g : Graph) (h : Sound (size s) g s) where
           (λ z. let e = apart (remove-named z) in edited-kept s a b false (touched (graph s) a b) (marks-room fits) p l e e) (λ d. (refl, refl))
 
   module _ (theirs base : List ℕ) where
-    abbrev tests : List Condition
-    tests = reconcileConditions (size s) (graph s) (merged (graph s) (edge theirs) (edge base)) theirs base
+    abbrev reconcileTests : List Condition
+    reconcileTests = reconcileConditions (size s) (graph s) (merged (graph s) (edge theirs) (edge base)) theirs base
 
-    reconcile-is : effect s (reconcile theirs base) ≡ ofState (outcome (lengths s ++ tests) s (reconciled s theirs base))
+    reconcile-is : effect s (reconcile theirs base) ≡ ofState (outcome (lengths s ++ reconcileTests) s (reconciled s theirs base))
     unfolding effect reconcileCall
     reconcile-is = refl
 
@@ -220,15 +220,15 @@ module _ (s : State) (g : Graph) (h : Sound (size s) g s) where
     unfolding wouldHold
     merged-links a b ha hb = merged-is (graph s) (edge theirs) (edge base) a b ∙ rw (links a b ha hb)
 
-    reconcile-same : refusal tests ≡ refusal (ownConditions (size s) g (reconcile theirs base))
+    reconcile-same : refusal reconcileTests ≡ refusal (ownConditions (size s) g (reconcile theirs base))
     unfolding ownConditions
     reconcile-same = reconcile-agree (size s) (graph s) g _ _ theirs base links merged-links
 
     pub reconcile-answer : answer s (reconcile theirs base) ≡ modelRefusal (size s) g (reconcile theirs base)
-    reconcile-answer = call-answer s fits g (reconcile theirs base) tests (reconciled s theirs base) reconcile-is reconcile-same
+    reconcile-answer = call-answer s fits g (reconcile theirs base) reconcileTests (reconciled s theirs base) reconcile-is reconcile-same
 
     pub reconcile-sound : Sound (size s) (model (size s) g (reconcile theirs base)) (stateAfter s (reconcile theirs base))
-    reconcile-sound = call-sound s fits g (reconcile theirs base) tests (reconciled s theirs base) reconcile-is reconcile-same
+    reconcile-sound = call-sound s fits g (reconcile theirs base) reconcileTests (reconciled s theirs base) reconcile-is reconcile-same
         (λ z. sound-agree merged-links (reconciled-sound s theirs base (sound-agree (agree-sym links) h))) (λ d. h)
 
   module _ (entries : Entries) (scratch : List ℕ) where

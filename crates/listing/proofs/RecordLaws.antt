@@ -20,7 +20,7 @@ use Rattle.topk.proofs.Full.{all-steps-length}
 use Rattle.topk.proofs.LayoutLaws.{entriesOf-flat, length-flat}
 use Rattle.topk.specs.Entries.{entry, flat, entriesOf}
 use Rattle.topk.specs.declared.entries.Entry.{Entry}
-use Rattle.topk.proofs.ListLaws.{acceptedOf, call-passed, call-refusal, call-refused, call-taken, refusalOf}
+use Rattle.topk.proofs.ListLaws.{acceptedOf, call-passed, call-refusal, call-taken, list-call-refused, refusalOf}
 use Rattle.topk.specs.List.{listCall, listConditions, listing, Listed, listOf, wanted}
 use Rattle.listing.specs.Records.{entriesCall}
 use Rattle.listing.specs.inside.Table.{entryIn, Gathered, laid, rows}
@@ -115,7 +115,7 @@ module _ (s : State) (C : List ℕ) where
     pub entries-refused : (refusalOf s C (length xs) ≡ 0 → ⊥) → entriesCall s xs C ≡ listing (refusalOf s C (length xs)) 0 s xs C
     unfolding entriesCall
     entries-refused d =
-        ap (λ (l : Listed ℕ). over-records (entriesOf (length xs) (l .entries)) l) (call-refused s C (flat xs) (length xs) (wanted-flat xs) d)
+        ap (λ (l : Listed ℕ). over-records (entriesOf (length xs) (l .entries)) l) (list-call-refused s C (flat xs) (length xs) (wanted-flat xs) d)
         ∙ ap (λ (ys : List Entry). listing (refusalOf s C (length xs)) 0 s ys C) (flat-back xs)
 
     -- an accepted one leaves the kept entries
@@ -148,7 +148,7 @@ module _ (s : State) (C : List ℕ) where
       small = zero-le;
       lists = λ xs l.
           let f : refusalOf s C k ≡ 0 → ⊥ = λ z. d (answers ∙ z) in
-          ap (over-records xs) (h ∙ call-refused s C E (min k rows) wants (λ z. f (sym (same-refusal k) ∙ z)))
+          ap (over-records xs) (h ∙ list-call-refused s C E (min k rows) wants (λ z. f (sym (same-refusal k) ∙ z)))
           ∙ ap (λ (r : ℕ). listing r 0 s xs C) (same-refusal k ∙ ap (refusalOf s C) (sym l))
           ∙ sym (entries-refused xs (λ z. f (ap (refusalOf s C) (sym l) ∙ z)));
     }

@@ -1,5 +1,5 @@
 -- One pair of a reconcile: what is decided of it, what its step requires, and what the step keeps. Assumes nothing.
-use mathlib.Core.Bool.{_&&_, Bool, Bool·beq, cond, false, not, or-true, true, true≢false}
+use mathlib.Core.Bool.{_&&_, Bool, Bool·beq, false, not, or-true, true, true≢false}
 use mathlib.Core.List.{List}
 use mathlib.Core.Logic.{inl, inr, _≢_}
 use mathlib.Core.Path.{ap, refl, sym, _∙_, _≡_}
@@ -21,10 +21,9 @@ use Rattle.packed.specs.Bits.{differ}
 use Rattle.packed.specs.Edges.{edge, withEdge}
 use Rattle.packed.specs.inside.Room.{Room}
 use Rattle.packed.specs.inside.Degrees.{degreesOf}
-use Rattle.edits.proofs.EditLaws.{edit-pair, edited-marks, edited-size}
-use Rattle.edits.specs.Edit.{added, edited, removed}
+use Rattle.edits.proofs.EditLaws.{changed-is, edit-pair, edited-marks, edited-size}
+use Rattle.edits.specs.Edit.{edited}
 use Rattle.edits.specs.inside.Change.{changed, Steppable}
-use Rattle.state.specs.Refusal.{ends, touched}
 use Rattle.state.specs.State.{graph, size, State}
 use Rattle.merge.specs.Reconcile.{takes}
 use Rattle.merge.specs.inside.Steps.{allStepped, cap, Ready, stepped}
@@ -141,11 +140,6 @@ module _ {on : Bool} {theirs base : List ℕ} {s : State} {degrees : List ℕ} (
           counted = rw n e;
           capped = λ p k. rw n (few-after p (omega arith));
         }
-
-changed-is : (s : State) (a b : ℕ) (on : Bool) → changed s a b on ≡ edited s a b on (cond on (ends a b) (touched (graph s) a b))
-unfolding added removed
-changed-is s a b true = refl
-changed-is s a b false = refl
 
 -- the step keeps what the loops need
 pub ready-kept : (on : Bool) (theirs base : List ℕ) {s t : State} {degrees next : List ℕ} (a b : ℕ) → Ready on theirs base s degrees → a < b → b < size s

@@ -1,7 +1,7 @@
 // The pairs that take theirs, in bit order: the additions where `on`, the removals elsewhere.
 use crate::changed::next_pair;
 use crate::merged::takes;
-use edits::edit::step;
+use edits::edit::edit_step;
 use packed::edges::has;
 ghost use mathlib.Core.Path.{_≡_};
 ghost use Prim.Native.Nat.{_<_};
@@ -31,7 +31,7 @@ fn take(
         return;
     }
     if has(theirs, a, b) == on {
-        step(edges, figures, marks, degrees, a, b, on);
+        edit_step(edges, figures, marks, degrees, a, b, on);
     }
 }
 

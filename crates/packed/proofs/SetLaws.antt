@@ -130,46 +130,48 @@ size-more row k e g =
     sym (in-word row k (32 * k + j) (omega arith) (omega arith) ∙ ap (bitOf word) (omega arith))))
     ∙ sym (sumTo-cat (λ q. bit (inSet row q)) (32 * k) 32) ∙ ap (countTo (inSet row)) more
 
-members-more : (row : List ℕ) (k : ℕ) → filter (inSet row) (range 0 (32 * k)) ++ membersIn (getD row k 0) (32 * k) ≡ filter (inSet row) (range 0 (32 * (k + 1)))
-unfolding membersIn
+members-more : (row : List ℕ) (k : ℕ) → membersOf row (32 * k) ++ membersIn (getD row k 0) (32 * k) ≡ membersOf row (32 * (k + 1))
+unfolding membersIn membersOf
 members-more row k =
     let more : 32 * k + 32 ≡ 32 * (k + 1) = omega arith in
     let start : 0 + 32 * k ≡ 32 * k = omega arith in
-    ap (λ l. filter (inSet row) (range 0 (32 * k)) ++ l) (filter-mem (inWord (getD row k 0) (32 * k)) (inSet row) (range (32 * k) 32) (λ q m.
+    ap (λ l. membersOf row (32 * k) ++ l) (filter-mem (inWord (getD row k 0) (32 * k)) (inSet row) (range (32 * k) 32) (λ q m.
     let b = mem-range (32 * k) 32 m in sym (in-word row k q (b .0) (b .1))))
     ∙ sym (filter-append (inSet row) (range 0 (32 * k)) (range (32 * k) 32))
     ∙ ap (filter (inSet row)) (ap (λ i. range 0 (32 * k) ++ range i 32) (sym start) ∙ range-append 0 (32 * k) 32 ∙ ap (range 0) more)
 
 -- the members of the first k words are written
 pub record Appended (row nodes₀ nodes : List ℕ) (count at k : ℕ) : Type 0 where
-  pub put : nodes ≡ sets nodes₀ count (filter (inSet row) (range 0 (32 * k)))
-  pub place : at ≡ count + length (filter (inSet row) (range 0 (32 * k)))
+  pub put : nodes ≡ sets nodes₀ count (membersOf row (32 * k))
+  pub place : at ≡ count + length (membersOf row (32 * k))
 
 pub append-none : (row nodes : List ℕ) (count : ℕ) → Appended row nodes nodes count count 0
+unfolding membersOf
 append-none row nodes count = record { put = refl; place = omega arith }
 
 module _ {row nodes₀ nodes : List ℕ} {count at k : ℕ} (w : Appended row nodes₀ nodes count at k) where
   pub append-long : length nodes ≡ length nodes₀
-  append-long = ap length (w .put) ∙ length-sets nodes₀ count (filter (inSet row) (range 0 (32 * k)))
+  append-long = ap length (w .put) ∙ length-sets nodes₀ count (membersOf row (32 * k))
 
   pub append-few : at ≤ count + 32 * k
+  unfolding membersOf
   append-few = omega (arith, w .place, count-most (inSet row) (range 0 (32 * k)), length-range 0 (32 * k))
 
   pub append-more : {nodes′ : List ℕ} {at′ : ℕ} → let xs = membersIn (getD row k 0) (32 * k) in (nodes′ ≡ sets nodes at xs) × (at′ ≡ at + length xs)
       → Appended row nodes₀ nodes′ count at′ (k + 1)
   append-more e =
-      let old : List ℕ = filter (inSet row) (range 0 (32 * k)) in
+      let old : List ℕ = membersOf row (32 * k) in
       let new : List ℕ = membersIn (getD row k 0) (32 * k) in
       record {
         put = e .0 ∙ ap₂ (λ l i. sets l i new) (w .put) (w .place) ∙ sets-append nodes₀ count old new ∙ ap (sets nodes₀ count) (members-more row k);
         place = omega (arith, e .1, w .place, length-append old new, ap length (members-more row k));
       }
 
-  pub append-all : k ≤ 8 → 8 ≤ k → (nodes ≡ sets nodes₀ count (membersOf row)) × (at ≡ count + length (membersOf row))
-  unfolding membersOf
-  append-all a b =
-      let all : filter (inSet row) (range 0 (32 * k)) ≡ membersOf row = ap (λ m. filter (inSet row) (range 0 (32 * m))) (le-antisymm a b) in
-      (w .put ∙ ap (sets nodes₀ count) all, w .place ∙ ap (λ l. count + length l) all)
+  pub append-end : {words : ℕ} → k ≤ words → words ≤ k
+      → (nodes ≡ sets nodes₀ count (membersOf row (32 * words))) × (at ≡ count + length (membersOf row (32 * words)))
+  append-end a b =
+      let end = ap (λ m. membersOf row (32 * m)) (le-antisymm a b) in
+      (w .put ∙ ap (sets nodes₀ count) end, w .place ∙ ap (λ l. count + length l) end)
 
 -- ---- the set of the nodes that pass a test
 
@@ -205,17 +207,17 @@ word-packed f i n = pack-is n (wordOf f i n) (λ j. f (i + (n - 1 - j))) (run-lt
 -- ---- the row of p
 
 module _ (es : List ℕ) (n p : ℕ) where
-  abbrev linked : ℕ → Bool
-  linked q = ltb q n && edge es p q
+  abbrev neighbour : ℕ → Bool
+  neighbour q = ltb q n && edge es p q
 
-  linked-below : (q : ℕ) → q < n → linked q ≡ edge es p q
-  linked-below q h = rw (lt-ltb q n h)
+  neighbour-below : (q : ℕ) → q < n → neighbour q ≡ edge es p q
+  neighbour-below q h = rw (lt-ltb q n h)
 
-  linked-past : (q : ℕ) → n ≤ q → linked q ≡ false
-  linked-past q h = rw (le-ltb q n h)
+  neighbour-past : (q : ℕ) → n ≤ q → neighbour q ≡ false
+  neighbour-past q h = rw (le-ltb q n h)
 
   abbrev pub rowWord : ℕ → ℕ
-  rowWord k = packTo (λ j. linked (32 * k + (31 - j))) 32
+  rowWord k = packTo (λ j. neighbour (32 * k + (31 - j))) 32
 
   -- as code shifts a word of the nodes before `end` to its place
   pub row-word : (k end : ℕ) {x : ℕ} → end ≡ min (32 * k + 32) n → 32 * k < n → x ≡ wordOf (edge es p) (32 * k) (end - 32 * k)
@@ -225,11 +227,11 @@ module _ (es : List ℕ) (n p : ℕ) where
       let a : ℕ = end - i in
       let b : ℕ = i + 32 - end in
       let all : a + b ≡ 32 = omega arith in
-      let same : wordOf (edge es p) i a ≡ wordOf linked i a = run-ext (edge es p) linked i i a (λ j l. sym (linked-below (i + j) (omega arith))) in
-      let none : wordOf linked (i + a) b ≡ 0 = run-clear linked (i + a) b (λ j l. linked-past (i + a + j) (omega arith)) in (
-        ap (λ y. y * 2 ^ b % 2 ^ 64) (g ∙ same) ∙ shl-exact a b 64 (run-lt linked i a) (omega arith) ∙ omega (arith, none, run-cat linked i a b)
-            ∙ ap (wordOf linked i) all ∙ word-packed linked i 32,
-        pack-lt (λ j. linked (i + (31 - j))) 32,
+      let same : wordOf (edge es p) i a ≡ wordOf neighbour i a = run-ext (edge es p) neighbour i i a (λ j l. sym (neighbour-below (i + j) (omega arith))) in
+      let none : wordOf neighbour (i + a) b ≡ 0 = run-clear neighbour (i + a) b (λ j l. neighbour-past (i + a + j) (omega arith)) in (
+        ap (λ y. y * 2 ^ b % 2 ^ 64) (g ∙ same) ∙ shl-exact a b 64 (run-lt neighbour i a) (omega arith) ∙ omega (arith, none, run-cat neighbour i a b)
+            ∙ ap (wordOf neighbour i) all ∙ word-packed neighbour i 32,
+        pack-lt (λ j. neighbour (i + (31 - j))) 32,
       )
 
   -- the words past n are 0
@@ -237,7 +239,7 @@ module _ (es : List ℕ) (n p : ℕ) where
   unfolding rowOf setOf
   row-filled k h l =
       fill-rest rowWord (replicate 8 0) 0 k h (λ i a b. getD-replicate 8 i 0 0 b
-      ∙ sym (sym (word-packed linked (32 * i) 32) ∙ run-clear linked (32 * i) 32 (λ j c. linked-past (32 * i + j) (omega arith))))
+      ∙ sym (sym (word-packed neighbour (32 * i) 32) ∙ run-clear neighbour (32 * i) 32 (λ j c. neighbour-past (32 * i + j) (omega arith))))
 
   -- the next node
   others : (r : ℕ) → r ≢ n → ltb r (n + 1) ≡ ltb r n
@@ -250,25 +252,25 @@ module _ (es : List ℕ) (n p : ℕ) where
   pub row-pass : edge es p n ≡ false → rowOf es n p ≡ rowOf es (n + 1) p
   unfolding rowOf
   row-pass e = ap setOf (fun-ext (λ r. elim (ℕ-discrete r n) [
-    | yes d ↦ linked-past r (omega arith) ∙ sym (rw (lt-ltb r (n + 1) (omega arith)) (ap (edge es p) d ∙ e))
+    | yes d ↦ neighbour-past r (omega arith) ∙ sym (rw (lt-ltb r (n + 1) (omega arith)) (ap (edge es p) d ∙ e))
     | no d ↦ ap (λ b. b && edge es p r) (sym (others r d))
   ]))
 
   pub row-next : n < maxNodes → edge es p n ≡ true
       → set (rowOf es n p) (n / 32) (bitOr (getD (rowOf es n p) (n / 32) 0) (1 * 2 ^ (31 - n % 32) % 2 ^ 32)) ≡ rowOf es (n + 1) p
   unfolding rowOf
-  row-next h t = set-put linked (λ q. ltb q (n + 1) && edge es p q) n h (rw (lt-ltb n (n + 1) (omega arith)) t) (λ r d. ap (λ b. b && edge es p r) (others r d))
+  row-next h t = set-put neighbour (λ q. ltb q (n + 1) && edge es p q) n h (rw (lt-ltb n (n + 1) (omega arith)) t) (λ r d. ap (λ b. b && edge es p r) (others r d))
 
   pub row-size : (m : ℕ) → n ≤ m → m ≤ maxNodes → countTo (inSet (rowOf es n p)) m ≡ countTo (edge es p) n
   unfolding rowOf
   row-size m h few =
-      countTo-ext (inSet (rowOf es n p)) linked m (λ q l. in-set linked q (omega arith))
-      ∙ count-skip linked n m h (λ q a b. linked-past q a)
-      ∙ countTo-ext linked (edge es p) n linked-below
+      countTo-ext (inSet (rowOf es n p)) neighbour m (λ q l. in-set neighbour q (omega arith))
+      ∙ count-skip neighbour n m h (λ q a b. neighbour-past q a)
+      ∙ countTo-ext neighbour (edge es p) n neighbour-below
 
-  pub row-members : n ≤ maxNodes → membersOf (rowOf es n p) ≡ filter (edge es p) (range 0 n)
+  pub row-members : (m : ℕ) → n ≤ m → m ≤ maxNodes → membersOf (rowOf es n p) m ≡ filter (edge es p) (range 0 n)
   unfolding rowOf membersOf
-  row-members h =
-      filter-mem (inSet (rowOf es n p)) linked (range 0 maxNodes) (λ q m. in-set linked q (mem-range 0 maxNodes m .1))
-      ∙ filter-skip linked 0 n maxNodes zero-le h (λ q a b. linked-past q a)
-      ∙ ap (λ m. filter linked (range 0 m)) (sub-zero n) ∙ filter-mem linked (edge es p) (range 0 n) (λ q m. linked-below q (omega (arith, mem-range 0 n m .1)))
+  row-members m h few =
+      filter-mem (inSet (rowOf es n p)) neighbour (range 0 m) (λ q l. in-set neighbour q (omega (arith, mem-range 0 m l .1)))
+      ∙ ap (λ k. filter neighbour (range 0 k)) (sym (sub-zero m)) ∙ filter-skip neighbour 0 n m zero-le h (λ q a b. neighbour-past q a)
+      ∙ ap (λ m. filter neighbour (range 0 m)) (sub-zero n) ∙ filter-mem neighbour (edge es p) (range 0 n) (λ q m. neighbour-below q (omega (arith, mem-range 0 n m .1)))

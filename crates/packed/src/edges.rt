@@ -3,6 +3,7 @@ use crate::bits::get;
 use crate::bits::put;
 use crate::rows::row_of;
 use crate::rows::size_of;
+use crate::rows::words_for;
 ghost use mathlib.Core.Path.{_≡_};
 ghost use Prim.Native.Nat.{_+_, _≤_, _<_, max};
 ghost use Rattle.arith.specs.Sums.{countTo};
@@ -62,5 +63,5 @@ pub fn degree(edges: &[u8], n: usize, p: usize) -> usize
     requires { ⌜ (p < n) × Room n (now edges) ⌝ }
     ensures { λ r. ⌜ r ≡ countTo (edge (now (edges .entry)) p) n ⌝ }
 {
-    size_of(row_of(edges, n, p), (n + 31) / 32)
+    size_of(row_of(edges, n, p), words_for(n))
 }

@@ -10,7 +10,7 @@ ghost use lib.Seq.{sets};
 ghost use Rattle.arith.specs.Sums.{countTo};
 ghost use Rattle.packed.specs.Pairs.{maxNodes};
 ghost use Rattle.packed.specs.inside.Room.{Room};
-ghost use Rattle.packed.specs.inside.Rows.{inSet, inWord, membersIn, membersOf, rowOf};
+ghost use Rattle.packed.specs.inside.Rows.{inSet, inWord, membersIn, membersOf, rowOf, rowWords, wordsFor};
 
 // The words of a set of nodes: 32 nodes in each.
 pub const ROW_WORDS: usize = 8;
@@ -49,6 +49,14 @@ pub fn row_of(edges: &[u8], n: usize, p: usize) -> Row
     row
 }
 
+// The words that hold n nodes.
+pub fn words_for(n: usize) -> usize
+    requires { ⌜ n ≤ maxNodes ⌝ }
+    ensures { λ r. ⌜ r ≡ wordsFor n ⌝ }
+{
+    (n + 31) / 32
+}
+
 // How many nodes a word has.
 fn ones_of(word: u32) -> usize
     ensures { λ r. ⌜ r ≡ countTo (inWord word 0) 32 ⌝ }
@@ -58,7 +66,7 @@ fn ones_of(word: u32) -> usize
 
 // How many nodes the first words of a set have.
 pub(crate) fn size_of(row: Row, words: usize) -> usize
-    requires { ⌜ words ≤ 8 ⌝ }
+    requires { ⌜ words ≤ rowWords ⌝ }
     ensures { λ r. ⌜ r ≡ countTo (inSet row) (32 * words) ⌝ }
 {
     let mut count: usize = 0;
@@ -87,13 +95,14 @@ fn append_word(word: u32, first: usize, nodes: &mut [u8], count: usize) -> usize
     at
 }
 
-// Writes the nodes of a set to the places from `count` on, as far as there are any; returns the place after them.
-pub fn append(row: Row, nodes: &mut [u8], count: usize) -> usize
-    requires { ⌜ count ≤ length (now nodes) ⌝ }
-    ensures { λ r. ⌜ (now (nodes .exit) ≡ sets (now (nodes .entry)) count (membersOf row)) × (r ≡ count + length (membersOf row)) ⌝ }
+// Writes the nodes of the first words of a set to the places from `count` on, as far as there are any; returns the place after them.
+pub fn append(row: Row, words: usize, nodes: &mut [u8], count: usize) -> usize
+    requires { ⌜ (words ≤ rowWords) × (count ≤ length (now nodes)) ⌝ }
+    ensures { λ _. ⌜ now (nodes .exit) ≡ sets (now (nodes .entry)) count (membersOf row (32 * words)) ⌝ }
+    ensures { λ r. ⌜ r ≡ count + length (membersOf row (32 * words)) ⌝ }
 {
     let mut at = count;
-    for k in 0..ROW_WORDS {
+    for k in 0..words {
         at = append_word(row[k], 32 * k, nodes, at);
     }
     at

@@ -28,11 +28,11 @@ ends-zero script at e =
     (eqb-true _ _ (r .0), eqb-true _ _ (and-true _ _ (r .1) .0))
 
 -- the numbers of what is yielded at a position
-abbrev numbers : Item → ℕ → Reading
-numbers item at = readingOf item (pastItem item at)
+abbrev numbersAt : Item → ℕ → Reading
+numbersAt item at = readingOf item (pastItem item at)
 
 -- by the four kinds of a record
-kinds : (kind a b at : ℕ) (ends : Bool) → kind < 4 → (ends ≡ true → (a ≡ 0) × (b ≡ 0)) → numbers (itemOf kind a b ends) at
+kinds : (kind a b at : ℕ) (ends : Bool) → kind < 4 → (ends ≡ true → (a ≡ 0) × (b ≡ 0)) → numbersAt (itemOf kind a b ends) at
     ≡ cond (cond (eqb kind 0) ends (not (eqb kind 3) || eqb b 0))
     (record { refusal = 0; kind = kind; a = a; b = b; position = cond (eqb kind 0) at (at + 18) })
     (record { refusal = 9; kind = 0; a = 0; b = 0; position = at })
@@ -47,7 +47,7 @@ kinds (suc (suc (suc zero))) a b at ends h e = elim (test (eqb b 0)) [
 ]
 kinds (suc (suc (suc (suc k)))) a b at ends h e = absurd (omega arith)
 
-reading-is : (script : List ℕ) (at : ℕ) → numbers (itemAt script at) at ≡ readingAt script at
+reading-is : (script : List ℕ) (at : ℕ) → numbersAt (itemAt script at) at ≡ readingAt script at
 unfolding itemAt readingAt readingOf wellFormed
 reading-is script at = elim (decLt (bitsLeft script at) recordBits) [
   | yes h ↦ rw (lt-ltb (bitsLeft script at) recordBits h, lt-leb recordBits (bitsLeft script at) h)

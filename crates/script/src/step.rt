@@ -50,7 +50,7 @@ fn bits_left(script: &[u8], at: usize) -> usize
 }
 
 // Whether a record of kind 0 ends the script: fewer than 8 bits follow, and its a and b and these are all 0.
-fn ends(script: &[u8], at: usize, left: usize) -> bool
+fn ends_script(script: &[u8], at: usize, left: usize) -> bool
     requires { ⌜ (left ≡ bitsLeft (now script) at) × (recordBits ≤ left) ⌝ }
     ensures { λ r. ⌜ r ≡ endsAt (now (script .entry)) at ⌝ }
 {
@@ -84,7 +84,7 @@ fn item_at(script: &[u8], at: usize) -> Item
         }
         return Item::ListFirst { k };
     }
-    if ends(script, at, left) {
+    if ends_script(script, at, left) {
         return Item::End;
     }
     Item::Malformed

@@ -8,7 +8,7 @@ ghost use Rattle.packed.specs.Pairs.{pairCount};
 ghost use Rattle.ego.specs.Limits.{limit, unit};
 
 // Sets every figure to 0.
-pub fn zero(figures: &mut [u64])
+pub fn set_zero(figures: &mut [u64])
     ensures { λ _. ⌜ now (figures .exit) ≡ replicate (length (now (figures .entry))) 0 ⌝ }
 {
     for p in 0..figures.len() {

@@ -15,7 +15,7 @@ pub fn is_stale(marks: &[u8], p: usize) -> bool
 }
 
 // Marks node p stale where `on`, and exact elsewhere.
-pub fn put(marks: &mut [u8], p: usize, on: bool)
+pub fn set_mark(marks: &mut [u8], p: usize, on: bool)
     requires { ⌜ markBytes (p + 1) ≤ length (now marks) ⌝ }
     ensures { λ _. ⌜ now (marks .exit) ≡ withMark (now (marks .entry)) p on ⌝ }
 {

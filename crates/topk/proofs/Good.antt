@@ -20,7 +20,7 @@ use Rattle.arith.proofs.Counts.{count-none}
 use Rattle.state.proofs.MarkLaws.{length-withMark, stale-other, stale-same}
 use Rattle.topk.proofs.NextLaws.{figureOf, Free, Taken}
 use Rattle.topk.proofs.Order.{Ahead, ahead-ahead, ahead-asym, Behind, behind-behind, behind-by, behind-flip}
-use Rattle.topk.proofs.Sort.{All, All-map, All-take, cut, In, in-insert, in-last, in-old, insert-all, insert-or, insert-sorted, length-keep, Out, push, Sorted, Sorted-take}
+use Rattle.topk.proofs.Sort.{All, All-map, All-take, In, in-insert, in-last, in-old, in-or-out, insert-all, insert-or, insert-sorted, length-keep, Out, push, Sorted, Sorted-take}
 use Rattle.topk.proofs.Top.{scored}
 use Rattle.topk.specs.Entries.{Entry, entry, insert, keep, lastOr, stops}
 use Rattle.state.specs.inside.Honest.{Honest}
@@ -167,9 +167,9 @@ module _ (T : ℕ → ℕ) (F M : List ℕ) (k : ℕ) (s : Progress) (hon : Hone
   unfolding ys
   ys-cover q l t =
       ⊎-elim
-      (λ c. subst (λ (m : ℕ). In (scored T m) ys ⊎ Out k (scored T m) ys) (sym c) (cut k (insert e xs) e insert-is-sorted (in-insert e xs)))
+      (λ c. subst (λ (m : ℕ). In (scored T m) ys ⊎ Out k (scored T m) ys) (sym c) (in-or-out k (insert e xs) e insert-is-sorted (in-insert e xs)))
       (λ o. ⊎-elim
-      (λ i. cut k (insert e xs) (scored T q) insert-is-sorted (in-old (scored T q) e xs i))
+      (λ i. in-or-out k (insert e xs) (scored T q) insert-is-sorted (in-old (scored T q) e xs i))
       (λ u. inr (omega (arith, length-ys, u .0), push (λ x. Ahead x (scored T q)) k e xs (u .0) (λ x b c. ahead-ahead e x (scored T q) b c) (u .1)))
       (g .cover q l (o .1)))
       (taken-cases q t)

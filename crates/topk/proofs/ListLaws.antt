@@ -52,9 +52,9 @@ module _ (s : State) (C : List ℕ) where
   abbrev pub acceptedOf : ℕ → List ℕ → Listed ℕ
   acceptedOf k E = listing 0 (listOf s k .recomputed) (ranOf s k) (over (listOf s k .kept) E) (replicate n 0 ++ drop n C)
 
-  pub call-refused : (E : List ℕ) (k : ℕ) → wanted E ≡ k → (refusalOf k ≡ 0 → ⊥) → listCall s E C ≡ listing (refusalOf k) 0 s E C
+  pub list-call-refused : (E : List ℕ) (k : ℕ) → wanted E ≡ k → (refusalOf k ≡ 0 → ⊥) → listCall s E C ≡ listing (refusalOf k) 0 s E C
   unfolding listCall
-  call-refused E k e d =
+  list-call-refused E k e d =
       let f : refusalOf (wanted E) ≡ 0 → ⊥ = λ z. d (ap refusalOf (sym e) ∙ z) in
       rw (ne-eqb (refusalOf (wanted E)) 0 f) (ap (λ (m : ℕ). listing (refusalOf m) 0 s E C) e)
 
@@ -84,7 +84,7 @@ module _ (s : State) (C : List ℕ) where
     is-refusal = e
 
     pub list-refused : (r ≡ 0 → ⊥) → listing r 0 s E C ≡ listCall s E C
-    list-refused d = ap (λ (m : ℕ). listing m 0 s E C) is-refusal ∙ sym (call-refused E (wanted E) refl (λ z. d (is-refusal ∙ z)))
+    list-refused d = ap (λ (m : ℕ). listing m 0 s E C) is-refusal ∙ sym (list-call-refused E (wanted E) refl (λ z. d (is-refusal ∙ z)))
 
     module _ (z : r ≡ 0) where
       taken : refusalOf (wanted E) ≡ 0

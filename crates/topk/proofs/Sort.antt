@@ -81,12 +81,12 @@ abbrev pub Out : ℕ → Entry → List Entry → Type 0
 Out k y xs = (length xs ≡ k) × All (λ x. Ahead x y) xs
 
 -- of a sorted list's first k
-pub cut : (k : ℕ) (xs : List Entry) (y : Entry) → Sorted xs → In y xs → In y (take k xs) ⊎ Out k y (take k xs)
-cut zero xs y s i = inr (refl, tt)
-cut (suc k) [] y s i = absurd i
-cut (suc k) (x ∷ xs) y s i =
+pub in-or-out : (k : ℕ) (xs : List Entry) (y : Entry) → Sorted xs → In y xs → In y (take k xs) ⊎ Out k y (take k xs)
+in-or-out zero xs y s i = inr (refl, tt)
+in-or-out (suc k) [] y s i = absurd i
+in-or-out (suc k) (x ∷ xs) y s i =
     ⊎-elim (λ q. inl (inl q))
-    (λ j. ⊎-elim (λ m. inl (inr m)) (λ o. inr (ap suc (o .0), (All-in (Ahead x) xs y (s .0) j, o .1))) (cut k xs y (s .1) j)) i
+    (λ j. ⊎-elim (λ m. inl (inr m)) (λ o. inr (ap suc (o .0), (All-in (Ahead x) xs y (s .0) j, o .1))) (in-or-out k xs y (s .1) j)) i
 
 -- what holds of all of a full list, and of e where it holds of one that e ranks before, holds after e is put in
 pub push : (P : Entry → Type 0) (k : ℕ) (e : Entry) (xs : List Entry) → length xs ≡ k → ((x : Entry) → Ahead e x → P x → P e)

@@ -75,22 +75,22 @@ list-spare s entries scratch =
 -- ---- it does not depend on them
 
 -- a list with other marks
-abbrev marked : Progress → List ℕ → Progress
-marked s marks = record { figures = s .figures; marks = marks; taken = s .taken; kept = s .kept; recomputed = s .recomputed }
+abbrev withMarks : Progress → List ℕ → Progress
+withMarks s marks = record { figures = s .figures; marks = marks; taken = s .taken; kept = s .kept; recomputed = s .recomputed }
 
 -- two lists of n nodes that differ in spare bits of the marks at most
 record Beside (n : ℕ) (s t : Progress) : Type 0 where
   nodes : length (s .figures) ≡ n
-  others : t ≡ marked s (t .marks)
+  others : t ≡ withMarks s (t .marks)
   marks : SameBits (markBits n) (s .marks) (t .marks)
 
 module _ (T U : ℕ → ℕ) (k n : ℕ) (agree : (p : ℕ) → p < n → T p ≡ U p) where
   module _ (s : Progress) (nodes : length (s .figures) ≡ n) (M : List ℕ) (e : SameBits (markBits n) (s .marks) M) where
-    same-worth : (p : ℕ) → p < n → worth T s p ≡ worth U (marked s M) p
+    same-worth : (p : ℕ) → p < n → worth T s p ≡ worth U (withMarks s M) p
     unfolding worth
     same-worth p l = rw (same-stale e p l, agree p l)
 
-    took-beside : (p : ℕ) → p < n → Beside n (took T k s p) (took U k (marked s M) p)
+    took-beside : (p : ℕ) → p < n → Beside n (took T k s p) (took U k (withMarks s M) p)
     unfolding took
     took-beside p l = record {
       nodes = length-set (s .figures) p (worth T s p) ∙ nodes;
@@ -104,7 +104,7 @@ module _ (T U : ℕ → ℕ) (k n : ℕ) (agree : (p : ℕ) → p < n → T p �
       marks = same-with-mark p false e;
     }
 
-    step-at-beside : (x : Next) → IsBest s n x → Beside n (stepAt T k s x) (stepAt U k (marked s M) x)
+    step-at-beside : (x : Next) → IsBest s n x → Beside n (stepAt T k s x) (stepAt U k (withMarks s M) x)
     unfolding stepAt
     step-at-beside nothing h = record { nodes = nodes; others = refl; marks = e }
     step-at-beside (at p) h = elim (test (stops k (stored s p) (s .kept))) [
@@ -112,10 +112,10 @@ module _ (T U : ℕ → ℕ) (k n : ℕ) (agree : (p : ℕ) → p < n → T p �
       | inr t ↦ rw t (took-beside p (h .0))
     ]
 
-    same-next : (i : ℕ) → bestBelow s i ≡ bestBelow (marked s M) i
-    same-next i = sym (best-looking s i) ∙ best-looking (marked s M) i
+    same-next : (i : ℕ) → bestBelow s i ≡ bestBelow (withMarks s M) i
+    same-next i = sym (best-looking s i) ∙ best-looking (withMarks s M) i
 
-    step-marked : Beside n (step T k s) (step U k (marked s M))
+    step-marked : Beside n (step T k s) (step U k (withMarks s M))
     unfolding step
     step-marked = rw (← same-next (length (s .figures)), nodes) (step-at-beside (bestBelow s n) (is-best s n))
 
@@ -147,7 +147,7 @@ module _ {s t : State} (h : Alike s t) (entries scratch : List ℕ) where
   accepted-alike : AlikeListed ℕ (acceptedList s entries scratch) (acceptedList t entries scratch)
   unfolding acceptedList
   accepted-alike =
-      let same : run t ≡ marked (run s) (run t .marks) = runs .others in
+      let same : run t ≡ withMarks (run s) (run t .marks) = runs .others in
       record {
         refusal = refl;
         recomputed = sym (ap (λ u. u .recomputed) same);

@@ -20,7 +20,7 @@ use Rattle.topk.proofs.Good.{Good, isRecomputed, isTaken, start-good, t
 use Rattle.topk.proofs.NextLaws.{figureOf, Free, IsBest, next-best, Taken}
 use Rattle.topk.proofs.Order.{Ahead, ahead-behind, Behind, behind-by}
 use Rattle.topk.proofs.Sort.{All, All-map, before-last, In}
-use Rattle.topk.proofs.Top.{First, first-unique, length-top, Node, scored, top-first}
+use Rattle.topk.proofs.Top.{First, firsts-unique, length-top, Node, scored, top-first}
 use Rattle.topk.proofs.TurnLaws.{still}
 use Rattle.topk.specs.Entries.{Entry, entry, ranksBefore, lastEntry, stops}
 use Rattle.state.specs.inside.Honest.{Honest}
@@ -180,7 +180,7 @@ module _ (T : ℕ → ℕ) (F M : List ℕ) (k : ℕ) (hon : Honest T F M) (fits
 
   pub right : Right T F M k end
   right = record {
-    kept = first-unique (Node T n) (end .kept) (take k (ranking T n)) (kept-length ∙ sym (length-top T k n)) kept-first (top-first T k n);
+    kept = firsts-unique (Node T n) (end .kept) (take k (ranking T n)) (kept-length ∙ sym (length-top T k n)) kept-first (top-first T k n);
     recomputed = g .count ∙ countTo-ext (isRecomputed M (end .taken)) (worksOut F M (end .kept)) n (λ q l. became q l .counted);
     figuresAre = λ q l. became q l .figureIs;
     marksAre = λ q l. became q l .markIs;

@@ -8,7 +8,7 @@ use native.Mathlib.Decide.{ℕ-discrete}
 use native.Mathlib.Omega.{arith}
 use lib.ListN.{length, length-take, take}
 use Rattle.topk.proofs.Order.{Ahead, ahead-asym, Behind, behind-flip, behind-self}
-use Rattle.topk.proofs.Sort.{All, All-in, All-map, All-of, All-take, cut, In, in-insert, in-old, insert-all, insert-sorted, length-insert, Sorted, Sorted-take}
+use Rattle.topk.proofs.Sort.{All, All-in, All-map, All-of, All-take, In, in-insert, in-old, in-or-out, insert-all, insert-sorted, length-insert, Sorted, Sorted-take}
 use Rattle.topk.specs.Entries.{Entry, entry, insert}
 use Rattle.topk.specs.Ranking.{ranking}
 
@@ -35,15 +35,15 @@ tail-first P x xs t = record {
 }
 
 -- two such lists of one length are one list
-pub first-unique : (P : Entry → Type 0) (xs ys : List Entry) → length xs ≡ length ys → First P xs → First P ys → xs ≡ ys
-first-unique P [] [] l s t = refl
-first-unique P [] (y ∷ ys) l s t = absurd (omega arith)
-first-unique P (x ∷ xs) [] l s t = absurd (omega arith)
-first-unique P (x ∷ xs) (y ∷ ys) l s t =
+pub firsts-unique : (P : Entry → Type 0) (xs ys : List Entry) → length xs ≡ length ys → First P xs → First P ys → xs ≡ ys
+firsts-unique P [] [] l s t = refl
+firsts-unique P [] (y ∷ ys) l s t = absurd (omega arith)
+firsts-unique P (x ∷ xs) [] l s t = absurd (omega arith)
+firsts-unique P (x ∷ xs) (y ∷ ys) l s t =
     let e : x ≡ y = ⊎-elim (λ q. q) (λ b. ⊎-elim (λ q. sym q) (λ c. absurd (clash x y b c)) (head-is P y ys x t (s .real .0)))
     (head-is P x xs y s (t .real .0)) in
     let t′ : First (λ z. P z × Ahead x z) ys = subst (λ (w : Entry). First (λ z. P z × Ahead w z) ys) (sym e) (tail-first P y ys t) in
-    ap₂ {C = List Entry} (λ a r. a ∷ r) e (first-unique (λ z. P z × Ahead x z) xs ys (omega arith) (tail-first P x xs s) t′)
+    ap₂ {C = List Entry} (λ a r. a ∷ r) e (firsts-unique (λ z. P z × Ahead x z) xs ys (omega arith) (tail-first P x xs s) t′)
 
 -- node q with its score
 abbrev pub scored : (ℕ → ℕ) → ℕ → Entry
@@ -88,7 +88,7 @@ top-first T k n = record {
   sorted = Sorted-take k (ranking T n) (ranking-sorted T n);
   real = All-take (Node T n) k (ranking T n) (ranking-real T n);
   rest = λ y p. subst (λ (z : Entry). In z (take k (ranking T n)) ⊎ All (λ x. Ahead x z) (take k (ranking T n))) (sym (p .1))
-      (⊎-elim (λ i. inl i) (λ o. inr (o .1)) (cut k (ranking T n) (scored T (y .node)) (ranking-sorted T n) (ranking-has T n (y .node) (p .0))));
+      (⊎-elim (λ i. inl i) (λ o. inr (o .1)) (in-or-out k (ranking T n) (scored T (y .node)) (ranking-sorted T n) (ranking-has T n (y .node) (p .0))));
 }
 
 pub length-top : (T : ℕ → ℕ) (k n : ℕ) → length (take k (ranking T n)) ≡ min n k

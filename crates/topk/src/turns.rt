@@ -45,7 +45,7 @@ fn one_turn(
     let w = worth_of(edges, figures, marks, p, recomputed);
     let f = w.figure;
     figures[p] = f;
-    state::marks::put(marks, p, false);
+    state::marks::set_mark(marks, p, false);
     taken[p] = 1;
     let after = insert(entries, kept, k, p as u64, f);
     Turn {

@@ -1,11 +1,9 @@
 -- The calls that C asks for, as calls of the state. Assumes nothing.
-use mathlib.Core.List.{List}
 use Prim.Native.Nat.{ℕ}
 use Rattle.state.specs.State.{State}
 use Rattle.state.specs.Outcome.{Outcome}
 use Rattle.calls.specs.Clear.{clearCall}
 use Rattle.edits.specs.Edit.{addCall, removeCall}
-use Rattle.capi.specs.Calls.{numbered}
 use Rattle.capi.specs.declared.requests.Request.{Request}
 use Rattle.capi.specs.declared.requests.Request.the-variants.{Clear, Add, Remove}
 
@@ -13,7 +11,3 @@ abbrev pub callOf : Request → ℕ → ℕ → State → Outcome
 callOf Clear a b s = clearCall s
 callOf Add a b s = addCall s a b
 callOf Remove a b s = removeCall s a b
-
--- the n figures that a call leaves, as numbers
-abbrev pub numbersAfter : (State → Outcome) → ℕ → State → List ℕ
-numbersAfter call n lent = call (numbered n lent) .after .figures

@@ -1,65 +1,80 @@
--- One edit, an add where `on` and a removal elsewhere: what it tests, and what its parts require. Assumes nothing.
+-- One edit, an add where `on` and a removal elsewhere: what it tests, what it answers and leaves, and what its parts require. Assumes nothing.
 use mathlib.Core.Bool.{Bool, cond, not}
 use mathlib.Core.List.{List, [], _∷_, _++_}
 use mathlib.Core.Logic.{_≢_}
 use mathlib.Core.Path.{_≡_}
 use Prim.Native.Nat.{ℕ, _≤_, _<_}
-use lib.ListN.{length, getD}
+use lib.Dec.{eqb}
+use lib.ListN.{length}
 use Rattle.packed.specs.inside.Room.{Room}
 use Rattle.packed.specs.Edges.{edge, withEdge}
 use Rattle.ego.specs.Limits.{limit}
 use Rattle.ego.specs.Graph.{Graph, degree}
 use Rattle.state.specs.Marks.{markBytes}
-use Rattle.state.specs.State.{State, size, graph}
-use Rattle.state.specs.Refusal.{Condition, nodeNumber, sameNodes, edgePresent, edgeAbsent, crowdedBefore, crowdedAfter, ends, touched}
-use Rattle.state.specs.Outcome.{Outcome, outcome, lengths}
+use Rattle.state.specs.State.{State, state, size, graph}
+use Rattle.state.specs.Refusal.{Condition, refusal, nodeNumber, sameNodes, edgePresent, edgeAbsent, crowdedBefore, crowdedAfter, ends, touched}
+use Rattle.state.specs.Outcome.{Outcome, left, outcome, stateLengths}
 use Rattle.edits.specs.Edit.{added, removed}
-use Rattle.edits.specs.inside.Touched.{Lists}
-use Rattle.edits.specs.declared.touched.Touched.{Touched}
+use Rattle.edits.specs.inside.Touched.{touchedOf, ofEach}
+use Rattle.edits.specs.inside.Renewal.{renewalBy, noRenewal, Renewable, renewedBy}
+use Rattle.edits.specs.declared.renewal.Renewal.{Renewal}
 
--- what it leaves where it is accepted
+-- a state after it, where it is accepted
 abbrev pub changed : State → ℕ → ℕ → Bool → State
 changed s a b on = cond on (added s a b) (removed s a b)
-
--- the edges after it
-abbrev pub after : State → ℕ → ℕ → Bool → List ℕ
-after s a b on = withEdge (s .edges) a b on
 
 -- 4 and 5; 6 of an add, 7 of a removal
 abbrev pub pairConditions : ℕ → Graph → ℕ → ℕ → Bool → List Condition
 pairConditions n g a b on = nodeNumber n a ∷ nodeNumber n b ∷ sameNodes a b ∷ cond on (edgePresent g a b) (edgeAbsent g a b) ∷ []
 
 -- 11; 12 of an add
-abbrev pub crowding : State → ℕ → ℕ → Bool → List Condition
-crowding s a b on =
-    crowdedBefore (graph s) (size s) (touched (graph s) a b) ∷ cond on (crowdedAfter (edge (after s a b on)) (size s) (ends a b) ∷ []) []
+abbrev pub crowding : List ℕ → ℕ → ℕ → ℕ → Bool → List Condition
+crowding edges n a b on =
+    crowdedBefore (edge edges) n (touched (edge edges) a b) ∷ cond on (crowdedAfter (edge (withEdge edges a b on)) n (ends a b) ∷ []) []
 
--- what it leaves once its lengths and its pair are accepted
-abbrev pub changeCall : State → ℕ → ℕ → Bool → Outcome
-changeCall s a b on = outcome (crowding s a b on) s (changed s a b on)
+-- all that it tests
+abbrev pub editConditions : List ℕ → List ℕ → ℕ → ℕ → ℕ → Bool → List Condition
+editConditions edges marks n a b on = stateLengths n (length edges) (length marks) ++ (pairConditions n (edge edges) a b on ++ crowding edges n a b on)
 
 -- the whole call
 abbrev pub editCall : State → ℕ → ℕ → Bool → Outcome
-editCall s a b on = outcome (lengths s ++ (pairConditions (size s) (graph s) a b on ++ crowding s a b on)) s (changed s a b on)
+editCall s a b on = outcome (editConditions (s .edges) (s .marks) (size s) a b on) s (changed s a b on)
+
+-- what it leaves to be written to the figures: its touched nodes, with their degrees after it
+unfoldable pub renewalOf : List ℕ → ℕ → ℕ → ℕ → Bool → Renewal
+renewalOf edges n a b on =
+    let t = touchedOf (edge edges) n a b in
+    renewalBy on t (ofEach (degree (edge (withEdge edges a b on)) n) (t .nodes) (t .count))
+
+unfoldable pub renewalUnder : List Condition → Renewal → Renewal
+renewalUnder conditions r = let refused = refusal conditions in cond (eqb refused 0) r (noRenewal refused)
+
+-- Under some conditions it answers one renewal, and leaves edges and marks that are the call's, with figures that are renewed, whatever they were.
+pub record Renews (conditions : List Condition) (edges marks : List ℕ) (n a b : ℕ) (on : Bool) (r : Renewal) (edges′ marks′ : List ℕ) : Type 0 where
+  pub answer : r ≡ renewalUnder conditions (renewalOf edges n a b on)
+  pub ready : Renewable r n
+  pub whole : (figures : List ℕ) → length figures ≡ n →
+      let s = state edges figures marks in
+      left (r .refusal) (state edges′ (renewedBy r figures) marks′) ≡ outcome conditions s (changed s a b on)
+
+-- under all its conditions, and under those that are left once its lengths and its pair are accepted
+abbrev pub Edits : List ℕ → List ℕ → ℕ → ℕ → ℕ → Bool → Renewal → List ℕ → List ℕ → Type 0
+Edits edges marks n a b on = Renews (editConditions edges marks n a b on) edges marks n a b on
+
+abbrev pub Changes : List ℕ → List ℕ → ℕ → ℕ → ℕ → Bool → Renewal → List ℕ → List ℕ → Type 0
+Changes edges marks n a b on = Renews (crowding edges n a b on) edges marks n a b on
 
 -- its lengths and its pair are accepted
-pub record Changeable (s : State) (a b : ℕ) (on : Bool) : Type 0 where
-  pub firstBelow : a < size s
-  pub secondBelow : b < size s
+pub record Changeable (edges marks : List ℕ) (n a b : ℕ) (on : Bool) : Type 0 where
+  pub firstBelow : a < n
+  pub secondBelow : b < n
   pub apart : a ≢ b
-  pub was : graph s a b ≡ not on
-  pub room : Room (size s) (s .edges)
-  pub marked : markBytes (size s) ≤ length (s .marks)
+  pub was : edge edges a b ≡ not on
+  pub room : Room n edges
+  pub marked : markBytes n ≤ length marks
 
 -- and no node has more edges than the limit, before it and after it
 pub record Steppable (s : State) (a b : ℕ) (on : Bool) : Type 0 where
-  pub pair : Changeable s a b on
+  pub pair : Changeable (s .edges) (s .marks) (size s) a b on
   pub fewBefore : (p : ℕ) → p < size s → degree (graph s) (size s) p ≤ limit
-  pub fewAfter : (p : ℕ) → p < size s → degree (edge (after s a b on)) (size s) p ≤ limit
-
--- the nodes that it touches are at hand, with their degrees after it
-pub record Editable (s : State) (a b : ℕ) (on : Bool) (t : Touched) (degrees : List ℕ) : Type 0 where
-  pub pair : Changeable s a b on
-  pub listed : Lists (graph s) (size s) a b t
-  pub counted : (i : ℕ) → i < t .count → getD degrees i 0 ≡ degree (edge (after s a b on)) (size s) (getD (t .nodes) i 0)
-  pub within : (i : ℕ) → i < t .count → getD degrees i 0 ≤ limit
+  pub fewAfter : (p : ℕ) → p < size s → degree (edge (withEdge (s .edges) a b on)) (size s) p ≤ limit

@@ -7,8 +7,14 @@ use lib.ListN.{getD}
 use Rattle.arith.specs.Digits.{bitOf}
 use Rattle.arith.specs.Lists.{filter, range}
 use Rattle.arith.specs.Sums.{packTo, tabulate}
-use Rattle.packed.specs.Pairs.{maxNodes}
 use Rattle.packed.specs.Edges.{edge}
+
+-- the words of a set, and those that hold the first n nodes
+abbrev pub rowWords : ℕ
+rowWords = 8
+
+abbrev pub wordsFor : ℕ → ℕ
+wordsFor n = (n + 31) / 32
 
 -- node q is in the set: bit 31 - q % 32 of word q / 32
 unfoldable pub inSet : List ℕ → ℕ → Bool
@@ -16,11 +22,11 @@ inSet row q = bitOf (getD row (q / 32) 0) (31 - q % 32)
 
 -- the set of the nodes that pass a test
 unfoldable pub setOf : (ℕ → Bool) → List ℕ
-setOf f = tabulate (λ k. packTo (λ j. f (32 * k + (31 - j))) 32) 8
+setOf f = tabulate (λ k. packTo (λ j. f (32 * k + (31 - j))) 32) rowWords
 
--- the nodes of a set, in order
-unfoldable pub membersOf : List ℕ → List ℕ
-membersOf row = filter (inSet row) (range 0 maxNodes)
+-- the nodes of a set below m, in order
+unfoldable pub membersOf : List ℕ → ℕ → List ℕ
+membersOf row m = filter (inSet row) (range 0 m)
 
 -- node q is in a word whose first node is `first`, and the nodes of the word
 unfoldable pub inWord : ℕ → ℕ → ℕ → Bool

@@ -19,10 +19,10 @@ start c = c .before .before .before .before
 abbrev given : tie.After-state-refusal → State
 given c = lent (start c .args .edges) (start c .args .figures) (start c .args .marks)
 
-abbrev edges : tie.After-zero2 → tie.After-zero
+abbrev edges : tie.After-set-zero → tie.After-zero
 edges c = c .before .before .before .before
 
-abbrev figures : tie.After-slice-known6 → tie.After-zero2
+abbrev figures : tie.After-slice-known6 → tie.After-set-zero
 figures c = c .before .before .before .before .before .before
 
 returns : tie.Need-returns
@@ -37,7 +37,7 @@ returns-2 c =
     let answer = passed .before .state-refusal .ensures in
     let f = fitted-by answer (passed .if1 .left) in
     accepted-is _ (given (passed .before)) _ (sym answer ∙ passed .if1 .left)
-    (cleared-is _ (zeroed .zero .ensures ∙ ap (λ m. replicate m 0) (f .sizes .edgesFit)) (figures c .zero2 .ensures)
+    (cleared-is _ (zeroed .zero .ensures ∙ ap (λ m. replicate m 0) (f .sizes .edgesFit)) (figures c .set-zero .ensures)
     (c .before .before .set-exact .ensures ∙ ap (λ m. replicate m 0) (f .marksFit)))
 
 pub clear-spec : {M : Type 1} → statement M

@@ -32,18 +32,6 @@ start c = entry (c .before .before .before)
 abbrev form : tie.After-degrees → tie.Else2
 form c = c .before .before .before
 
-abbrev degrees : tie.After-copy-edges → tie.After-degrees
-degrees c = c .before .before .before .before
-
-abbrev copied : tie.After-set-bounds → tie.After-copy-edges
-copied c = c .before .before .before .before .before
-
-abbrev few : tie.After-edges → tie.Else3
-few c = c .before .before .before
-
-abbrev bounds : tie.After-slice-known6 → tie.After-set-bounds
-bounds c = c .before .before .before .before .before .before
-
 -- what is known once the form has passed
 fitted : (c : tie.Else2) →
     let s = start c .args in
@@ -107,6 +95,19 @@ returns-3 c =
     call-refused (given (e .before .before .before)) _ _ (fitted e)
     (load-crowded _ (now (start e .args .snapshot)) (e .before .form-refusal .ensures) (e .if2 .left) (sym (over (c .before)) ∙ c .if3 .taken))
     (λ q. omega arith)
+
+-- the writes, back from one to the one before it
+abbrev degrees : tie.After-copy-edges → tie.After-degrees
+degrees c = c .before .before .before .before
+
+abbrev copied : tie.After-set-bounds → tie.After-copy-edges
+copied c = c .before .before .before .before .before
+
+abbrev few : tie.After-edges → tie.Else3
+few c = c .before .before .before
+
+abbrev bounds : tie.After-slice-known6 → tie.After-set-bounds
+bounds c = c .before .before .before .before .before .before
 
 copy-edges-requires : tie.Need-copy-edges-requires
 copy-edges-requires c κs = let e = form (c .before .before .before) in fits e .long ∙ ap (λ m. 1 + m) (sym (fitted e .sizes .edgesFit))

@@ -1,15 +1,16 @@
 -- `edits::edit::add` meets its contract. Assumes nothing.
 use borrow.Author.Needs.{needs}
+use Rattle.state.specs.Outcome.{lengths}
 use Rattle.edits.specs.Edit.{addCall}
 use Rattle.edits.proofs.edit.add.Statement.{statement}
 use Rattle.edits.proofs.edit.add.Tie as tie
 
-abbrev returned : tie.After-slice-known6 → tie.After-edit
+abbrev returned : tie.After-slice-known6 → tie.After-edit-state
 returned c = c .before .before .before .before .before .before
 
 returns : tie.Need-returns
-unfolding addCall
-returns c = returned c .edit .ensures
+unfolding addCall lengths
+returns c = returned c .edit-state .ensures
 
 pub add-spec : {M : Type 1} → statement M
 add-spec = tie.close (tie.spec (λ c κs. search needs) (λ c. search needs) (λ c. search needs) (λ c. search needs) returns)

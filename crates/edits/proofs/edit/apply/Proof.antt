@@ -1,47 +1,30 @@
 -- `edits::edit::apply` meets its contract. Assumes nothing.
+use mathlib.Core.Path.{ap}
 use borrow.Author.Needs.{needs}
-use Rattle.packed.proofs.PairLaws.{room-within}
-use Rattle.edits.proofs.ApplyLaws.{bound-ready, changed-by, mark-ready}
+use Rattle.edits.specs.declared.renewal.Renewal.{Renewal}
 use Rattle.edits.proofs.edit.apply.Statement.{statement}
 use Rattle.edits.proofs.edit.apply.Tie as tie
 
 -- back from one call to the one before it, and to the start
-abbrev start : tie.After-renewed-count → tie.Start
+abbrev start : tie.After-link → tie.Start
 start c = c .before .before .before .before .before
-
-abbrev renewed : tie.After-link → tie.After-renewed-count
-renewed c = c .before .before
 
 abbrev linked : tie.After-mark-each-arg → tie.After-link
 linked c = c .before .before .before
 
-abbrev marked : tie.After-bound-each-arg → tie.After-mark-each
+abbrev marked : tie.After-renewed-count → tie.After-mark-each
 marked c = c .before .before .before
 
-link-requires : tie.Need-link-requires
-link-requires c κs =
-    let s = start (c .before) in
-    room-within (s .args .a) (s .args .b) _ _ (s .pre .pair .firstBelow) (s .pre .pair .secondBelow) (s .pre .pair .room)
-
 mark-each-requires : tie.Need-mark-each-requires
-mark-each-requires c κs = mark-ready (start (renewed (linked c)) .pre)
-
-bound-each-requires : tie.Need-bound-each-requires
-bound-each-requires c κs =
-    let r = renewed (linked (marked c .before)) in
-    bound-ready (start r .pre) (r .renewed-count .ensures)
+mark-each-requires c κs = start (linked c) .pre .1
 
 returns : tie.Need-returns
 returns c =
-    let at-bound-each = c .before .before in
-    let at-mark-each = marked (at-bound-each .before) in
-    let at-link = linked (at-mark-each .before) in
-    let r = renewed at-link in
-    changed-by (start r .pre) (r .renewed-count .ensures) (λ k. r .before .before .slice-known3 .given k .fits)
-    (at-link .link .ensures) (at-mark-each .mark-each .ensures) (at-bound-each .bound-each .ensures)
+    let at-link = linked (marked c .before) in
+    let s = start at-link .args in (
+      ap {B = Renewal} (λ k. record { refusal = 0; nodes = s .touching .nodes; degrees = s .degrees; count = k }) (c .renewed-count .ensures),
+      (at-link .link .ensures, marked c .mark-each .ensures),
+    )
 
 pub apply-spec : {M : Type 1} → statement M
-apply-spec =
-    tie.close
-    (tie.spec (λ c κs. search needs) link-requires mark-each-requires bound-each-requires (λ c. search needs) (λ c. search needs)
-    (λ c. search needs) returns)
+apply-spec = tie.close (tie.spec (λ c κs. search needs) mark-each-requires (λ c κs. search needs) (λ c. search needs) (λ c. search needs) returns)

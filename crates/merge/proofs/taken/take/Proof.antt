@@ -9,10 +9,10 @@ use Rattle.merge.proofs.taken.take.Tie as tie
 abbrev start : tie.After-takes-arg → tie.Start
 start c = c .before .before .before .before .before .before .before
 
-abbrev at-then : tie.After-step-arg4 → tie.Then2
+abbrev at-then : tie.After-edit-step-arg4 → tie.Then2
 at-then c = c .before .before .before .before
 
-abbrev at-step : tie.After-slice-known8 → tie.After-step
+abbrev at-step : tie.After-slice-known8 → tie.After-edit-step
 at-step c = c .before .before .before .before .before .before .before .before
 
 takes-requires : tie.Need-takes-requires
@@ -24,8 +24,8 @@ returns c = (untaken _ _ _ _ _ _ (sym (c .before .takes .ensures) ∙ not-true _
 has-requires : tie.Need-has-requires
 has-requires c κs = let s = start (c .before .before) in ready-rooms (s .pre .2) _ _ (s .pre .0) (s .pre .1) .1
 
-step-requires : tie.Need-step-requires
-step-requires c κs =
+edit-step-requires : tie.Need-edit-step-requires
+edit-step-requires c κs =
     let has = at-then c .before in
     let if1 = has .before in
     let s = start (if1 .before .before) in (
@@ -39,7 +39,7 @@ returns-2 c =
     let if2 = at-then (at-step c .before) in
     let has = if2 .before in
     let if1 = has .before in
-    let step = at-step c .step in
+    let step = at-step c .edit-step in
     (step-changes _ _ _ _ _ _ (if1 .before .takes .ensures) (if1 .if1 .left) (has .has .ensures) (if2 .if2 .taken) (step .ensures .0), step .ensures .1)
 
 returns-3 : tie.Need-returns-3
@@ -52,5 +52,5 @@ returns-3 c =
 pub take-spec : {M : Type 1} → statement M
 take-spec =
     tie.close
-    (tie.spec takes-requires (λ c. search needs) returns has-requires step-requires (λ c. search needs) (λ c. search needs)
+    (tie.spec takes-requires (λ c. search needs) returns has-requires edit-step-requires (λ c. search needs) (λ c. search needs)
     (λ c. search needs) (λ c. search needs) returns-2 (λ c. search needs) returns-3)

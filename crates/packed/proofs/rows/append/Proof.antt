@@ -1,15 +1,15 @@
 -- `packed::rows::append` meets its contract: after k turns the nodes of the first k words are written. Assumes nothing.
 use Prim.Native.Nat.{_-_, _≤_}
 use native.Mathlib.Omega.{arith}
-use Rattle.packed.proofs.SetLaws.{append-all, append-few, append-long, append-more, append-none, Appended}
+use Rattle.packed.proofs.SetLaws.{append-end, append-few, append-long, append-more, append-none, Appended}
 use Rattle.packed.proofs.rows.append.Statement.{statement}
 use Rattle.packed.proofs.rows.append.Tie as tie
 
 abbrev Inv-loop : tie.InvT-loop
-Inv-loop nodes₀ count row at₀ k₀ nodes at k = (k ≤ 8) × Appended row nodes₀ nodes count at k
+Inv-loop words nodes₀ count row at₀ k₀ nodes at k = (k ≤ words) × Appended row nodes₀ nodes count at k
 
 abbrev μ-loop : tie.MeasureT-loop
-μ-loop nodes₀ count row at₀ k₀ nodes at k = 8 - k
+μ-loop words nodes₀ count row at₀ k₀ nodes at k = words - k
 
 abbrev at-loop : tie.After-slice-known2 Inv-loop μ-loop → tie.At-loop Inv-loop μ-loop
 at-loop c = c .before .before .before .before .before
@@ -29,7 +29,7 @@ same-length : tie.Need-same-length Inv-loop μ-loop
 same-length c = append-long (c .before .loop .inv .1)
 
 returns : tie.Need-returns Inv-loop μ-loop
-returns c = append-all (c .before .loop .inv .1) (c .before .loop .inv .0) (c .loop-test .left)
+returns c = append-end (c .before .loop .inv .1) (c .before .loop .inv .0) (c .loop-test .left)
 
 pub append-spec : {M : Type 1} → statement M
 append-spec =

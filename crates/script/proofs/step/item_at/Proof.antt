@@ -74,17 +74,17 @@ returns-4 c = let k = c .before in item-list-b _ _ (found (k .before .before .be
 returns-5 : tie.Need-returns-5
 returns-5 c = let k = c .before in item-list _ _ (found (k .before .before .before)) (k .if4 .taken) (c .if5 .left)
 
-ends-requires : tie.Need-ends-requires
-ends-requires c κs = let f = found (c .before .before .before) in (f .bits, f .enough)
+ends-script-requires : tie.Need-ends-script-requires
+ends-script-requires c κs = let f = found (c .before .before .before) in (f .bits, f .enough)
 
-abbrev left : tie.After-ends → tie.After-run-of3
+abbrev left : tie.After-ends-script → tie.After-run-of3
 left c = c .before .before .before .before
 
-other : (c : tie.After-ends) {ends : Bool} → c .ends .result ≡ ends
+other : (c : tie.After-ends-script) {ends : Bool} → c .ends-script .result ≡ ends
     → cond ends End Malformed ≡ itemAt (now (start (enough (left c)) .args .script)) (start (enough (left c)) .args .at)
 other c e =
     let k = c .before in
-    item-other _ _ (found (left c)) (k .before .before .if2 .left) (k .before .if3 .left) (k .if4 .left) (sym (c .ends .ensures) ∙ e)
+    item-other _ _ (found (left c)) (k .before .before .if2 .left) (k .before .if3 .left) (k .if4 .left) (sym (c .ends-script .ensures) ∙ e)
 
 returns-6 : tie.Need-returns-6
 returns-6 c = other (c .before) (c .if6 .taken)
@@ -96,4 +96,4 @@ pub item-at-spec : {M : Type 1} → statement M
 item-at-spec =
     tie.close
     (tie.spec (λ c κs. search needs) returns run-of-requires add-run-of run-of-requires-2 add-run-of-2 run-of-requires-3 returns-2 returns-3
-    add-k returns-4 returns-5 ends-requires returns-6 returns-7)
+    add-k returns-4 returns-5 ends-script-requires returns-6 returns-7)

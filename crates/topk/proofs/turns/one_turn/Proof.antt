@@ -17,7 +17,7 @@ goes c = c .before .before .before
 abbrev worked : tie.After-slice-known7 → tie.After-worth-of
 worked c = c .before .before .before .before .before .before .before .before
 
-abbrev marked : tie.After-slice-known7 → tie.After-put
+abbrev marked : tie.After-slice-known7 → tie.After-set-mark
 marked c = c .before .before .before .before .before .before
 
 returns : tie.Need-returns
@@ -40,7 +40,7 @@ returns-3 c =
     let s = goes w in
     let n = node (s .before) in
     turn-take (start (n .before) .pre) (n .before .next-node .ensures) (n .if1 .left) (s .before .stops-at .ensures) (s .if2 .left)
-    (w .worth-of .ensures) (marked c .put .ensures) (c .before .before .insert .ensures)
+    (w .worth-of .ensures) (marked c .set-mark .ensures) (c .before .before .insert .ensures)
 
 pub one-turn-spec : {M : Type 1} → statement M
 one-turn-spec =

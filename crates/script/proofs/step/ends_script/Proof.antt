@@ -1,4 +1,4 @@
--- `script::step::ends` meets its contract. Assumes nothing.
+-- `script::step::ends_script` meets its contract. Assumes nothing.
 use mathlib.Core.Path.{_≡_}
 use Prim.Native.Nat.{_*_, _+_, _≤_}
 use native.Mathlib.Omega.{arith}
@@ -7,8 +7,8 @@ use denote.Ref.{now}
 use lib.ListN.{length}
 use Rattle.script.proofs.RecordLaws.{ends-more, ends-run, left-room}
 use Rattle.script.specs.Limits.{maxBytes}
-use Rattle.script.proofs.step.ends.Statement.{statement}
-use Rattle.script.proofs.step.ends.Tie as tie
+use Rattle.script.proofs.step.ends_script.Statement.{statement}
+use Rattle.script.proofs.step.ends_script.Tie as tie
 
 room : (s : tie.Start) → (length (now (s .args .script)) ≤ maxBytes) × (s .args .at + s .args .left ≡ 8 * length (now (s .args .script)))
 room s = left-room (now (s .args .script)) (s .args .at) (s .args .left) (s .pre .0) (s .pre .1)
@@ -25,5 +25,5 @@ run-of-requires c κs = (omega arith, omega arith, omega (arith, room (c .before
 returns-2 : tie.Need-returns-2
 returns-2 c = let p = c .before .before .before .pre in ends-run _ _ (c .run-of .result) (p .0) (p .1) (c .before .if1 .left) (c .run-of .ensures)
 
-pub ends-spec : {M : Type 1} → statement M
-ends-spec = tie.close (tie.spec (λ c. search needs) returns add-run-of (λ c. search needs) run-of-requires returns-2)
+pub ends-script-spec : {M : Type 1} → statement M
+ends-script-spec = tie.close (tie.spec (λ c. search needs) returns add-run-of (λ c. search needs) run-of-requires returns-2)
