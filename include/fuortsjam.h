@@ -5,7 +5,7 @@
  *   links    n(n-1)/2 bits, rounded up to bytes: the pair a < b is bit b(b-1)/2 + a, most significant bit first
  *   figures  8n bytes: a number of grains for each post, least significant byte first
  *   marks    n bits, rounded up to bytes: a bit for each post, most significant bit first
- * 72,201,776,446,800 grains make 1. The buffers of a call must not overlap, and no other thread may use them during it.
+ * 5,342,931,457,063,200 grains make 1. The buffers of a call must not overlap, and no other thread may use them during it.
  * A pointer whose length is 0 may be null: a board of one post has no link bytes.
  *
  * Refusal numbers, in the order in which they are tested. A call that is refused writes nothing.
@@ -16,8 +16,8 @@
  *    5  the two posts are the same
  *    6  the link to add is there
  *    7  the link to remove is not there
- *   11  before the call, a post has more than 32 links
- *   12  after the call, a post would have more than 32 links
+ *   11  before the call, a post has more than 40 links
+ *   12  after the call, a post would have more than 40 links
  */
 #ifndef FUORTSJAM_H
 #define FUORTSJAM_H

@@ -9,11 +9,12 @@ use std::hint::black_box;
 use std::time::Instant;
 
 const SIZES: [usize; 3] = [16, 64, 256];
-const LINKS: [usize; 3] = [4, 16, 32];
+const LINKS: [usize; 4] = [4, 16, 32, 40];
 /// Rounds of which the median is taken.
 const ROUNDS: usize = 41;
 /// Calls that are timed together in a round.
 const BATCH: usize = 32;
+/// The boards of a size and a number of links depend on it alone.
 const SEED: u64 = 2005;
 
 /// A state that owns its buffers, the figures in both forms.
@@ -233,11 +234,10 @@ pub fn run(library: Option<&dyn Calls>) {
     }
     println!("medians of {ROUNDS} rounds of {BATCH} calls, in nanoseconds a call");
     println!("{:<20}{:>5}{:>7}{:>12}{:>12}{:>8}", "call", "n", "links", "library", "tuned", "ratio");
-    let mut rng = Rng::new(SEED);
     let mut summary = Vec::new();
     for n in SIZES {
         for links in LINKS.into_iter().filter(|&links| links < n) {
-            for case in cases(&mut rng, n, links) {
+            for case in cases(&mut Rng::new(SEED), n, links) {
                 let times = time(&case, &versions);
                 print_line(case.name, n, links, &times);
                 if case.name == "list 8, one edit" && n == 256 {

@@ -24,9 +24,9 @@ enum Fill {
 pub fn node_count(rng: &mut Rng) -> usize {
     match rng.below(20) {
         0..=9 => rng.between(1, 12),
-        10..=13 => rng.between(13, 40),
-        14..=16 => rng.between(41, 100),
-        17..=18 => rng.between(101, 255),
+        10..=13 => rng.between(13, 50),
+        14..=16 => rng.between(51, 120),
+        17..=18 => rng.between(121, 255),
         _ => 256,
     }
 }
@@ -35,8 +35,8 @@ fn fill(rng: &mut Rng) -> Fill {
     match rng.below(20) {
         0 => Fill::None,
         1..=4 => Fill::Edges(rng.between(1, 4)),
-        5..=9 => Fill::Edges(rng.between(5, 16)),
-        10..=12 => Fill::Edges(rng.between(17, 31)),
+        5..=9 => Fill::Edges(rng.between(5, 20)),
+        10..=12 => Fill::Edges(rng.between(21, MAX_DEGREE - 1)),
         13..=15 => Fill::Full,
         16..=17 => Fill::Crowded,
         _ => Fill::Noise,
@@ -103,9 +103,9 @@ pub fn state(rng: &mut Rng, n: usize) -> Memory {
     let style = rng.below(4);
     for p in 0..n {
         let figure = match style {
-            0 => bound(graph.degree(p)),
+            0 => bound(graph.degree(p).min(MAX_DEGREE)),
             1 => rng.next(),
-            2 => bound(rng.below(33)),
+            2 => bound(rng.between(0, MAX_DEGREE)),
             _ => rng.below(3) as u64,
         };
         put_figure(&mut memory, p, figure);
@@ -129,7 +129,7 @@ pub fn corrupt(rng: &mut Rng, n: usize, memory: &mut Memory) {
         1 => memory.marks = rng.bytes(mark_bytes(n)),
         2 => set_spare(rng, &mut memory.edges, pair_count(n)),
         _ => {
-            let figure = if rng.chance(50) { rng.next() } else { bound(rng.below(33)) };
+            let figure = if rng.chance(50) { rng.next() } else { bound(rng.between(0, MAX_DEGREE)) };
             let p = rng.below(n);
             put_figure(memory, p, figure);
         }

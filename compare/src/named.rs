@@ -59,17 +59,17 @@ fn sheet(n: usize, links: &[u8]) -> Vec<u8> {
     [&[(n - 1) as u8], links].concat()
 }
 
-/// Links of post 0 to each of the others, on a board of 34 posts.
+/// Links of post 0 to each of the others, on a board of 42 posts.
 fn star(others: impl Iterator<Item = usize>) -> Vec<u8> {
-    let mut links = vec![0; edge_bytes(34)];
+    let mut links = vec![0; edge_bytes(42)];
     others.for_each(|q| put_bit(&mut links, pair_index(0, q), true));
     links
 }
 
-/// A board of 34 posts whose post 0 has its 32 links.
+/// A board of 42 posts whose post 0 has its 40 links.
 fn full(version: &dyn Calls) -> Board<'_> {
-    let mut board = Board::new(version, 34);
-    board.lent.edges = star(1..=32);
+    let mut board = Board::new(version, 42);
+    board.lent.edges = star(1..=40);
     board
 }
 
@@ -88,21 +88,21 @@ fn lists_of(version: &dyn Calls, k: fn(usize) -> usize) -> Vec<u64> {
 type Case = (&'static str, u64, fn(&dyn Calls) -> Vec<u64>);
 
 const CASES: [Case; 17] = [
-    ("32 links are accepted by add", 0, |version| {
-        let mut board = Board::new(version, 34);
-        (1..=32).map(|q| board.call(Kind::Add, 0, q)).collect()
+    ("40 links are accepted by add", 0, |version| {
+        let mut board = Board::new(version, 42);
+        (1..=40).map(|q| board.call(Kind::Add, 0, q)).collect()
     }),
-    ("the 33rd link is refusal 12 of add", 12, |version| {
+    ("the 41st link is refusal 12 of add", 12, |version| {
         let mut board = full(version);
-        vec![board.call(Kind::Add, 0, 33), board.call(Kind::Add, 33, 0)]
+        vec![board.call(Kind::Add, 0, 41), board.call(Kind::Add, 41, 0)]
     }),
-    ("32 links are accepted by load", 0, |version| vec![Board::new(version, 34).load(&star(1..=32))]),
-    ("the 33rd link is refusal 12 of load", 12, |version| vec![Board::new(version, 34).load(&star(1..=33))]),
-    ("32 links are accepted by reconcile", 0, |version| {
-        vec![Board::new(version, 34).reconcile(star(1..=32)), full(version).reconcile(star(1..=1))]
+    ("40 links are accepted by load", 0, |version| vec![Board::new(version, 42).load(&star(1..=40))]),
+    ("the 41st link is refusal 12 of load", 12, |version| vec![Board::new(version, 42).load(&star(1..=41))]),
+    ("40 links are accepted by reconcile", 0, |version| {
+        vec![Board::new(version, 42).reconcile(star(1..=40)), full(version).reconcile(star(1..=1))]
     }),
-    ("the 33rd link is refusal 12 of reconcile", 12, |version| {
-        vec![Board::new(version, 34).reconcile(star(1..=33)), full(version).reconcile(star(33..=33))]
+    ("the 41st link is refusal 12 of reconcile", 12, |version| {
+        vec![Board::new(version, 42).reconcile(star(1..=41)), full(version).reconcile(star(41..=41))]
     }),
     ("n = 256 is accepted by every call", 0, |version| every_call(version, 256)),
     ("257 figures are refusal 1 of every call", 1, |version| every_call(version, 257)),

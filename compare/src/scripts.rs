@@ -9,10 +9,15 @@ use std::io::Write;
 use std::process::{Command, Stdio};
 use std::thread;
 
-/// A whole script: nodes mostly of the board, lists mostly within it.
+/// A whole script: nodes mostly of the board, one of them often, so that it reaches its limit; lists mostly within it.
 fn whole(rng: &mut Rng) -> Vec<u8> {
     let n = node_count(rng);
-    let node = |rng: &mut Rng| if rng.chance(97) { rng.below(n) } else { rng.below(256) };
+    let busy = rng.below(n);
+    let node = |rng: &mut Rng| match rng.below(100) {
+        0..=19 => busy,
+        20..=96 => rng.below(n),
+        _ => rng.below(256),
+    };
     let mut packer = Packer::default();
     packer.push(8, n - 1);
     let records = if rng.chance(70) { rng.between(0, 40) } else { rng.between(41, 1200) };

@@ -22,9 +22,9 @@ pub enum Refusal {
     BadSnapshot = 9,
     /// A snapshot's node count differs from the state's.
     OtherNodeCount = 10,
-    /// Before the call a node has more than 32 edges.
+    /// Before the call a node has more than `MAX_DEGREE` edges.
     Crowded = 11,
-    /// After the call a node would have more than 32 edges.
+    /// After the call a node would have more than `MAX_DEGREE` edges.
     WouldCrowd = 12,
 }
 

@@ -5,7 +5,7 @@ use super::packing::edge_bytes;
 use super::refusal::{refuse_if, Refusal};
 use super::state::check_node_count;
 
-/// A way to score a node that has at most 32 edges.
+/// A way to score a node that has at most `MAX_DEGREE` edges.
 pub type Scorer = fn(&Graph, usize) -> u64;
 
 pub fn score(n: u64, edges: &[u8], node: u64, scorer: Scorer) -> Result<u64, Refusal> {

@@ -1,7 +1,7 @@
 //! The description's worked cases, run on the plain version with both ways to score.
 
 use super::calls::Plain;
-use super::limits::UNIT;
+use super::limits::{bound, MAX_DEGREE, UNIT};
 use super::packing::{edge_bytes, mark_bytes};
 use super::replay::replay;
 use super::{derived, paths};
@@ -9,6 +9,43 @@ use crate::calls::Calls;
 
 const BOTH: [Plain; 2] =
     [Plain { name: "paths", scorer: paths::score }, Plain { name: "derived", scorer: derived::score }];
+
+/// A numerator and a denominator.
+type Fraction = (u64, u64);
+
+/// The edges of document 000's example graph.
+const EXAMPLE_EDGES: &str = "ab ac ad ae bc bd bf cd ce cf cg ch dg dh di eg ei ej fh fi fk fx gi hi ij jk ux vx xy xz";
+
+/// Each vertex of that graph and its scores: as it is, with ik added, and with cg removed.
+const EXAMPLE_SCORES: [(&str, [Fraction; 3]); 16] = [
+    ("a", [(1, 1), (1, 1), (1, 1)]),
+    ("b", [(1, 1), (1, 1), (1, 1)]),
+    ("c", [(41, 6), (41, 6), (14, 3)]),
+    ("d", [(14, 3), (14, 3), (7, 1)]),
+    ("e", [(9, 2), (9, 2), (13, 2)]),
+    ("f", [(11, 1), (19, 2), (11, 1)]),
+    ("g", [(2, 3), (2, 3), (1, 2)]),
+    ("h", [(2, 3), (2, 3), (2, 3)]),
+    ("i", [(8, 1), (21, 2), (8, 1)]),
+    ("j", [(2, 1), (1, 2), (2, 1)]),
+    ("k", [(1, 1), (1, 2), (1, 1)]),
+    ("x", [(10, 1), (10, 1), (10, 1)]),
+    ("u", [(0, 1), (0, 1), (0, 1)]),
+    ("v", [(0, 1), (0, 1), (0, 1)]),
+    ("y", [(0, 1), (0, 1), (0, 1)]),
+    ("z", [(0, 1), (0, 1), (0, 1)]),
+];
+
+/// A fraction in grains, of which it is a whole number.
+fn grains((numerator, denominator): Fraction) -> u64 {
+    assert_eq!(UNIT % denominator, 0);
+    UNIT / denominator * numerator
+}
+
+/// The node of the example graph's vertex.
+fn vertex(name: &str) -> u64 {
+    EXAMPLE_SCORES.iter().position(|&(other, _)| other == name).expect("the vertex is in the table") as u64
+}
 
 /// A state that owns its buffers.
 struct Board {
@@ -52,6 +89,41 @@ impl Board {
 }
 
 #[test]
+fn the_unit_is_the_least_common_multiple_of_1_to_39() {
+    fn gcd(a: u64, b: u64) -> u64 {
+        if b == 0 {
+            a
+        } else {
+            gcd(b, a % b)
+        }
+    }
+    assert_eq!(UNIT, (1..=39).fold(1, |multiple, next| multiple / gcd(multiple, next) * next));
+    assert_eq!(UNIT, 5_342_931_457_063_200);
+}
+
+#[test]
+fn a_star_of_40_edges_has_the_largest_score() {
+    const LARGEST: u64 = 4_167_486_536_509_296_000;
+    let edges: Vec<(u64, u64)> = (1..=40).map(|q| (0, q)).collect();
+    for plain in &BOTH {
+        assert_eq!(Board::with(plain, 41, &edges).scores(plain)[0], LARGEST);
+    }
+    assert_eq!(LARGEST, 780 * UNIT);
+    assert_eq!(LARGEST, bound(MAX_DEGREE));
+}
+
+#[test]
+fn all_edges_of_41_but_one_make_the_smallest_share() {
+    let mut edges: Vec<(u64, u64)> = (0..41).flat_map(|b| (0..b).map(move |a| (a, b))).collect();
+    assert_eq!(edges.pop(), Some((39, 40)));
+    for plain in &BOTH {
+        let scores = Board::with(plain, 41, &edges).scores(plain);
+        assert_eq!(scores[..39], [grains((1, 39)); 39]);
+        assert_eq!(scores[39..], [0; 2]);
+    }
+}
+
+#[test]
 fn no_edges_score_0() {
     for plain in &BOTH {
         assert_eq!(Board::with(plain, 5, &[]).scores(plain), [0; 5]);
@@ -86,7 +158,7 @@ fn each_node_of_a_ring_of_4_scores_1() {
 
 #[test]
 fn all_edges_of_4_but_one() {
-    const HALF: u64 = 36_100_888_223_400;
+    const HALF: u64 = 2_671_465_728_531_600;
     for plain in &BOTH {
         let mut board = Board::with(plain, 4, &[(0, 1), (0, 2), (0, 3), (1, 2), (1, 3)]);
         assert_eq!(board.scores(plain), [HALF, HALF, 0, 0]);
@@ -114,8 +186,26 @@ fn example_1_of_the_source_scores_14_thirds() {
         [(0, 1), (0, 2), (0, 3), (0, 4), (0, 5), (0, 6), (1, 2), (1, 3), (2, 3), (3, 4), (3, 5), (4, 6), (5, 6)];
     for plain in &BOTH {
         let board = Board::with(plain, 7, &edges);
-        assert_eq!(board.scores(plain)[0], 336_941_623_418_400);
+        assert_eq!(board.scores(plain)[0], 24_933_680_132_961_600);
         assert_eq!(3 * board.scores(plain)[0], 14 * UNIT);
+    }
+}
+
+#[test]
+fn the_example_graph_of_the_source() {
+    let [c, g, i, k] = ["c", "g", "i", "k"].map(vertex);
+    let edges: Vec<(u64, u64)> =
+        EXAMPLE_EDGES.split(' ').map(|ends| (vertex(&ends[..1]), vertex(&ends[1..]))).collect();
+    assert_eq!(edges.len(), 30);
+    let due = |column: usize| EXAMPLE_SCORES.map(|(_, scores)| grains(scores[column]));
+    for plain in &BOTH {
+        let mut board = Board::with(plain, 16, &edges);
+        assert_eq!(board.scores(plain), due(0));
+        assert_eq!(board.add(plain, i, k), 0);
+        assert_eq!(board.scores(plain), due(1));
+        assert_eq!(board.remove(plain, i, k), 0);
+        assert_eq!(board.remove(plain, c, g), 0);
+        assert_eq!(board.scores(plain), due(2));
     }
 }
 
@@ -135,7 +225,7 @@ fn reconcile_keeps_only_what_mine_added() {
 #[test]
 fn the_listing_of_the_script_program() {
     let script = [0x03, 0x40, 0, 0x50, 0, 0x24, 0, 0x0F, 0x01, 0, 0, 0, 0];
-    let printed = "posts 4\nadd 0 1 0\nadd 0 2 0\nadd 0 3 0\nhead 2 0 2\n0 216605329340400\n1 0\nend\n";
+    let printed = "posts 4\nadd 0 1 0\nadd 0 2 0\nadd 0 3 0\nhead 2 0 2\n0 16028794371189600\n1 0\nend\n";
     assert_eq!(replay(&script), printed);
 }
 

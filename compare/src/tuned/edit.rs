@@ -49,12 +49,13 @@ pub fn edit(n: u64, edges: &mut [u8], figures: &mut [u8], marks: &mut [u8], a: u
         return CROWDED;
     }
     let common = both(&row_a, &row_b);
-    let mut degrees = [0; 32];
+    let mut degrees = [0_u8; LIMIT];
     let mut found = 0;
     let mut crowded = false;
     each(&common, |w| {
-        degrees[found] = degree(edges, n, w);
-        crowded |= degrees[found] > LIMIT;
+        let degree = degree(edges, n, w);
+        crowded |= degree > LIMIT;
+        degrees[found] = degree as u8;
         found += 1;
     });
     if crowded {
@@ -64,7 +65,7 @@ pub fn edit(n: u64, edges: &mut [u8], figures: &mut [u8], marks: &mut [u8], a: u
         return WOULD_CROWD;
     }
     edges[index / 8] ^= 128 >> (index % 8);
-    let step = if adds { 1 } else { u32::MAX };
+    let step = if adds { 1 } else { usize::MAX };
     put(figures, a, bound(degree_a.wrapping_add(step)));
     put(figures, b, bound(degree_b.wrapping_add(step)));
     set_bit(marks, a);
@@ -73,7 +74,7 @@ pub fn edit(n: u64, edges: &mut [u8], figures: &mut [u8], marks: &mut [u8], a: u
     each(&common, |w| {
         set_bit(marks, w);
         if !adds {
-            put(figures, w, bound(degrees[found]));
+            put(figures, w, bound(usize::from(degrees[found])));
         }
         found += 1;
     });

@@ -74,10 +74,10 @@ pub fn reconcile(edges: &mut [u8], figures: &mut [u64], marks: &mut [u8], theirs
         let common = apply(&mut rows, edges, marks, change);
         for end in [change.a, change.b] {
             degrees[end] -= 1;
-            figures[end] = bound(u32::from(degrees[end]));
+            figures[end] = bound(usize::from(degrees[end]));
         }
         each(&common, |w| {
-            figures[w] = bound(u32::from(degrees[w]));
+            figures[w] = bound(usize::from(degrees[w]));
             set_bit(marks, w);
         });
     }
@@ -85,7 +85,7 @@ pub fn reconcile(edges: &mut [u8], figures: &mut [u64], marks: &mut [u8], theirs
         let common = apply(&mut rows, edges, marks, change);
         for end in [change.a, change.b] {
             degrees[end] += 1;
-            figures[end] = bound(u32::from(degrees[end]));
+            figures[end] = bound(usize::from(degrees[end]));
         }
         each(&common, |w| set_bit(marks, w));
     }

@@ -13,19 +13,18 @@ pub const OTHER_NODE_COUNT: u64 = 10;
 pub const CROWDED: u64 = 11;
 pub const WOULD_CROWD: u64 = 12;
 
-pub const LIMIT: u32 = 32;
-pub const UNIT: u64 = 72_201_776_446_800;
+pub const LIMIT: usize = 40;
+pub const UNIT: u64 = 5_342_931_457_063_200;
 
 #[inline]
 pub fn edge_bytes(n: usize) -> usize {
     (n * (n - 1) / 2).div_ceil(8)
 }
 
-/// The ceiling of a node of `degree` edges.
+/// The ceiling of a node of `degree` edges, at most `LIMIT`.
 #[inline]
-pub fn bound(degree: u32) -> u64 {
-    let degree = u64::from(degree);
-    degree * degree.wrapping_sub(1) / 2 * UNIT
+pub fn bound(degree: usize) -> u64 {
+    (degree * degree.wrapping_sub(1) / 2) as u64 * UNIT
 }
 
 /// Refusals 1 and 2 of the edges and the marks, 0 where neither applies.
@@ -43,5 +42,5 @@ pub fn state(n: u64, edges: &[u8], marks: &[u8]) -> u64 {
 
 #[inline]
 pub fn any_over(degrees: &[u16]) -> bool {
-    degrees.iter().any(|&degree| u32::from(degree) > LIMIT)
+    degrees.iter().any(|&degree| usize::from(degree) > LIMIT)
 }

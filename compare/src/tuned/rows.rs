@@ -21,8 +21,8 @@ pub fn contains(row: &Row, a: usize) -> bool {
 }
 
 #[inline]
-pub fn count(row: &Row) -> u32 {
-    row.iter().map(|word| word.count_ones()).sum()
+pub fn count(row: &Row) -> usize {
+    row.iter().map(|word| word.count_ones() as usize).sum()
 }
 
 #[inline]
@@ -101,11 +101,11 @@ pub fn row(edges: &[u8], n: usize, p: usize) -> Row {
 }
 
 /// The number of neighbours of p.
-pub fn degree(edges: &[u8], n: usize, p: usize) -> u32 {
+pub fn degree(edges: &[u8], n: usize, p: usize) -> usize {
     let mut degree = count(&lower(edges, p));
     let mut index = p * (p + 1) / 2 + p;
     for b in p + 1..n {
-        degree += u32::from(bit(edges, index));
+        degree += usize::from(bit(edges, index));
         index += b;
     }
     degree

@@ -35,7 +35,7 @@ pub fn load(edges: &mut [u8], figures: &mut [u64], marks: &mut [u8], snapshot: &
     }
     edges.copy_from_slice(bits);
     for (figure, &degree) in figures.iter_mut().zip(&degrees) {
-        *figure = bound(u32::from(degree));
+        *figure = bound(usize::from(degree));
     }
     marks.fill(255);
     if !n.is_multiple_of(8) {

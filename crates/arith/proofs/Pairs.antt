@@ -1,13 +1,17 @@
 -- The pairs of a list. Assumes nothing.
+use mathlib.Core.Bool.{Bool, false}
 use mathlib.Core.List.{[], List, List·Memᴰ, List·Memᴰ·append-cases, List·Memᴰ·cases-cons, List·Memᴰ·head, List·Memᴰ·not-nil, List·Memᴰ·tail, map, Memᴰ·append-left, Memᴰ·append-right, Memᴰ·cast, Memᴰ·map, Memᴰ·of-map, _∷_}
 use mathlib.Core.Logic.{inl, inr, _≢_, _⊎_}
 use mathlib.Core.Path.{ap, refl, sym, _∙_, _≡_}
 use Prim.Native.Nat.{_*_, _+_, _-_, _<_, suc, zero, ℕ, _≤_}
+use native.Mathlib.Nat.{ne-of-lt}
 use native.Mathlib.Omega.{arith}
 use lib.ListN.{length, length-append, length-map}
+use Rattle.arith.proofs.Filter.{count-miss-two}
 use Rattle.arith.proofs.Members.{mem-some}
-use Rattle.arith.proofs.Range.{mem-up, Up}
-use Rattle.arith.specs.Lists.{pairs}
+use Rattle.arith.proofs.Range.{count-range, length-range, mem-up, range-mem, Up}
+use Rattle.arith.specs.Lists.{pairs, range}
+use Rattle.arith.specs.Sums.{countTo}
 
 module _ {A : Type 0} where
   -- each two that differ are a pair, one way round
@@ -58,3 +62,15 @@ pairs-step (suc d) q h = omega (arith, rw suc-sub-one at h, suc-sub-one (suc d),
 pub pairs-twice : {A : Type 0} (xs : List A) → length (pairs xs) * 2 ≡ length xs * (length xs - 1)
 pairs-twice [] = refl
 pairs-twice {A} (x ∷ xs) = rw (length-append {A = A × A}, length-map {B = A × A}) (pairs-step (length xs) (length (pairs xs)) (pairs-twice xs))
+
+-- where two of the numbers below n do not pass, at most the others do
+pub countTo-miss-two : (f : ℕ → Bool) (n i j : ℕ) → i < j → j < n → f i ≡ false → f j ≡ false → countTo f n + 2 ≤ n
+countTo-miss-two f n i j l h e d =
+    let at = range-mem {q = i} 0 n (omega arith) (omega arith) in
+    let other = range-mem {q = j} 0 n (omega arith) (omega arith) in
+    let counted = count-range f n in
+    let all = length-range 0 n in
+    elim (pairs-in (range 0 n) at other (ne-of-lt l)) [
+      | inl m ↦ omega (arith, count-miss-two f (range 0 n) m e d, counted, all)
+      | inr m ↦ omega (arith, count-miss-two f (range 0 n) m d e, counted, all)
+    ]

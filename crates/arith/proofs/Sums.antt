@@ -8,9 +8,11 @@ use native.Mathlib.Decide.{decLt}
 use native.Mathlib.Nat.{add-suc, add-zero, eq-or-lt-of-le, le-antisymm, le-refl, ne-of-lt, suc-mul}
 use native.Mathlib.Numerals.{add-one}
 use native.Mathlib.Omega.{arith}
+use borrow.Author.Tests.{eqb-true}
+use lib.Dec.{eqb}
 use lib.ListN.{getD, getD-replicate, length, length-append, length-replicate, length-set, List·getD-append, replicate, set}
 use lib.Seq.{ext-getD, getD-at, getD-set-other, getD-set-same}
-use Rattle.arith.proofs.Tests.{test}
+use Rattle.arith.proofs.Tests.{each, each-at, test}
 use Rattle.arith.specs.Sums.{anyTo, bit, countTo, sumTo, tabulate}
 use Rattle.arith.specs.inside.Fill.{fillTo}
 
@@ -50,6 +52,15 @@ unfolding sumTo
 sumTo-add f g zero = refl
 sumTo-add f g (suc n) = omega (arith, sumTo-add f g n)
 
+-- a term that is 0 in the one sum and not in the other
+pub sumTo-gain : (f g : ℕ → ℕ) (n k : ℕ) → k < n → f k ≡ 0 → ((j : ℕ) → j ≢ k → f j ≡ g j) → sumTo g n ≡ sumTo f n + g k
+unfolding sumTo
+sumTo-gain f g zero k l a h = absurd (omega arith)
+sumTo-gain f g (suc n) k l a h = elim (decLt k n) [
+  | yes s ↦ omega (arith, sumTo-gain f g n k s a h, h n (omega arith))
+  | no s ↦ let e : n ≡ k = omega arith in omega (arith, sumTo-ext f g n (λ j i. h j (omega arith)), ap f e ∙ a, ap g e)
+]
+
 -- ---- a loop that adds f i at turn i: the sum after a turn, a bound on it, and the sum at the end
 
 pub sum-step : (f : ℕ → ℕ) (n : ℕ) {s r : ℕ} → s ≡ sumTo f n → r ≡ f n → s + r ≡ sumTo f (n + 1)
@@ -81,13 +92,8 @@ countTo-ext p q n h = sumTo-ext _ _ n (λ i k. ap bit (h i k))
 
 -- a test that passes at one number more
 pub count-gain : (p q : ℕ → Bool) (n k : ℕ) → k < n → p k ≡ false → q k ≡ true → ((j : ℕ) → j ≢ k → p j ≡ q j) → countTo q n ≡ countTo p n + 1
-unfolding sumTo
-count-gain p q zero k l a b h = absurd (omega arith)
-count-gain p q (suc n) k l a b h = elim (decLt k n) [
-  | yes s ↦ omega (arith, count-gain p q n k s a b h, ap bit (h n (omega arith)))
-  | no s ↦ let e : n ≡ k = omega arith in
-      omega (arith, countTo-ext p q n (λ j i. h j (omega arith)), ap bit (ap p e ∙ a), ap bit (ap q e ∙ b))
-]
+count-gain p q n k l a b h =
+    sumTo-gain (λ j. bit (p j)) (λ j. bit (q j)) n k l (ap bit a) (λ j d. ap bit (h j d)) ∙ ap (λ (t : Bool). countTo p n + bit t) b
 
 -- ---- a loop that stores f i at place i
 
@@ -228,6 +234,11 @@ module _ {A : Type 0} where
   tabulate-same x n =
       ext-getD x (tabulate (λ i. x) n) (replicate n x) (length-tabulate (λ i. x) n ∙ sym (length-replicate n x))
       (λ i b. let h : i < n = omega (arith, length-tabulate (λ (i : ℕ). x) n) in getD-tabulate (λ i. x) n i x h ∙ sym (getD-replicate n i x x h))
+
+-- a list that is written out, entry by entry as the checker computes it
+pub table-by : (f : ℕ → ℕ) (n : ℕ) (l : List ℕ) → length l ≡ n → each (λ i. eqb (getD l i 0) (f i)) n ≡ true → l ≡ tabulate f n
+table-by f n l e t = ext-getD 0 l (tabulate f n) (e ∙ sym (length-tabulate f n)) (λ i h.
+    eqb-true (getD l i 0) (f i) (each-at (λ i. eqb (getD l i 0) (f i)) n i t (omega arith)) ∙ sym (getD-tabulate f n i 0 (omega arith)))
 
 -- ---- a loop over every place of a list: before turn i the first i elements are f's
 

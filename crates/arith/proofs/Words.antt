@@ -1,19 +1,20 @@
--- Digits as tests: what a shift and a mask test, what a count of ones counts, and what a packed number has. Assumes nothing.
-use mathlib.Core.Bool.{_&&_, Bool, false, true}
-use mathlib.Core.Logic.{⊎-elim}
-use mathlib.Core.Path.{ap, ap₂, refl, sym, _∙_, _≡_}
+-- Digits as tests: what a count of ones counts, what a packed number has, and a number without its lowest digits, or its lowest one. Assumes nothing.
+use mathlib.Core.Bool.{_&&_, Bool, false, not, true}
+use mathlib.Core.Logic.{inl, inr, _≢_, ⊎-elim}
+use mathlib.Core.Path.{ap, ap₂, fun-ext, refl, sym, _∙_, _≡_}
 use Prim.Native.Nat.{_%_, _*_, _+_, _-_, _/_, _<_, _^_, min, suc, zero, ℕ, _≤_}
 use native.Mathlib.Decide.{ℕ-discrete}
-use native.Mathlib.Nat.{add-comm, add-mul-div-right, add-mul-mod-self-right, div-eq-of-lt, div-mul-le-self, eq-or-lt-of-le, lt-of-le-of-lt, mod-eq-of-lt, mod-lt, mod-one, mul-add-mod-self-right, mul-assoc, one-mul, pow-suc, zero-add, zero-mul}
+use native.Mathlib.Nat.{add-comm, add-mul-div-right, add-mul-mod-self-right, add-zero, div-eq-of-lt, div-mul-le-self, div-one, eq-or-lt-of-le, lt-of-le-of-lt, lt-of-lt-of-le, mod-eq-of-lt, mod-lt, mod-one, mul-add-mod-self-right, mul-assoc, one-mul, pow-suc, zero-add, zero-mul}
 use native.Mathlib.Numerals.{one-add}
 use native.Mathlib.Omega.{arith}
 use borrow.Author.Tests.{eq-eqb, eqb-false, eqb-true, ne-eqb}
-use lib.Bits.{and-le-l, and-mask, and-shr, and-step, bitAnd, bitOr, or-shifted-r}
-use lib.Count.{ones, ones-cat}
+use lib.Bits.{and-le-l, and-self, and-shr, and-step, bitAnd}
+use lib.Count.{ones, ones-cat, trailingZeros}
 use lib.Dec.{eqb}
-use lib.Pow.{field, mod-mod-pow, mod-pow-add, pow-add, pow-lt, pow-pos, shl-shr, shr-shr}
+use lib.Pow.{field, mod-mod-pow, mod-pow-add, pow-add, pow-mono, pow-pos, shl-shr, shr-shr}
 use Rattle.arith.proofs.Digits.{digit-two, digits-eq}
-use Rattle.arith.proofs.Sums.{countTo-ext, sumTo-more}
+use Rattle.arith.proofs.Sums.{countTo-ext}
+use Rattle.arith.proofs.Tests.{test}
 use Rattle.arith.specs.Digits.{bitOf, digit}
 use Rattle.arith.specs.Sums.{bit, countTo, packTo, sumTo}
 
@@ -22,16 +23,6 @@ below-two : (P : ℕ → Type 0) → P 0 → P 1 → (n : ℕ) → n < 2 → P n
 below-two P a b zero h = a
 below-two P a b (suc zero) h = b
 below-two P a b (suc (suc n)) h = absurd (omega arith)
-
--- ---- what the code computes: `(x >> k) & 1 == 1`, and `x | (1 << k)` in a word of w bits
-pub bit-test : (x k : ℕ) → eqb (bitAnd (x / 2 ^ k) 1) 1 ≡ bitOf x k
-unfolding bitOf digit
-bit-test x k = ap (λ (y : ℕ). eqb y 1) (and-mask (x / 2 ^ k) 1)
-
-pub bit-set : (w x k : ℕ) → k < w → x < 2 ^ k → bitOr x (1 * 2 ^ k % 2 ^ w) ≡ x + 2 ^ k
-bit-set w x k h l =
-    ap (bitOr x) (mod-eq-of-lt (omega (arith, one-mul (2 ^ k), pow-lt h)))
-    ∙ or-shifted-r 1 k x l ∙ omega (arith, one-mul (2 ^ k))
 
 -- ---- the bits of an and
 and-low : (a b : ℕ) → bitAnd a b % 2 ≡ min (a % 2) (b % 2)
@@ -91,6 +82,11 @@ bit-mod n x k h =
     ap (λ (y : ℕ). eqb (y % 2) 1) (ap (λ (m : ℕ). x % 2 ^ m / 2 ^ k) {y = (n - k - 1 + 1) + k} (omega arith) ∙ field x (n - k - 1 + 1) k)
     ∙ ap (λ (y : ℕ). eqb y 1) (mod-mod-pow (x / 2 ^ k) (n - k - 1) 1)
 
+-- no digit above a number's length is set
+pub past-top : (x m k : ℕ) → x < 2 ^ m → m ≤ k → bitOf x k ≡ false
+unfolding bitOf digit
+past-top x m k h l = ap (λ (y : ℕ). eqb (y % 2) 1) (div-eq-of-lt (lt-of-lt-of-le h (pow-mono l)))
+
 digit-eq : (b : Bool) → eqb (bit b % 2) 1 ≡ b
 digit-eq true = refl
 digit-eq false = refl
@@ -111,9 +107,20 @@ pack-bit p (suc n) k h =
     ∙ pack-bit p n k b)
     (eq-or-lt-of-le (omega arith))
 
--- ---- a loop that puts p j at digit j in turn j
-pub pack-more : (p : ℕ → Bool) (j : ℕ) → packTo p j + bit (p j) * 2 ^ j ≡ packTo p (j + 1)
-pack-more p j = sym (sumTo-more _ j)
+-- ---- the lowest digit first
+pub pack-first : (p : ℕ → Bool) (n : ℕ) → packTo p (suc n) ≡ packTo (λ k. p (suc k)) n * 2 + bit (p 0)
+unfolding sumTo
+pack-first p zero = omega arith
+pack-first p (suc n) = omega (arith, pack-first p n, ap (λ x. bit (p (suc n)) * x) (pow-suc 2 n) ∙ sym (mul-assoc (bit (p (suc n))) (2 ^ n) 2))
+
+-- a loop that puts p m below the digits from m + 1 on
+pub pack-below : (p : ℕ → Bool) (m n : ℕ) {x : ℕ} {on : Bool} → m < n → x ≡ packTo (λ k. p (m + 1 + k)) (n - (m + 1)) → on ≡ p m
+    → x * 2 + bit on ≡ packTo (λ k. p (m + k)) (n - m)
+pack-below p m n h e o =
+    let more : suc (n - (m + 1)) ≡ n - m = omega arith in
+    ap₂ (λ y b. y * 2 + bit b) (e ∙ ap (λ f. packTo f (n - (m + 1))) (fun-ext (λ k. ap p {x = m + 1 + k} {y = m + suc k} (omega arith))))
+    (o ∙ ap p (sym (add-zero m)))
+    ∙ sym (pack-first (λ k. p (m + k)) (n - (m + 1))) ∙ ap (packTo (λ k. p (m + k))) more
 
 -- ---- a number is known by its digits as tests
 
@@ -129,6 +136,18 @@ bits-eq w x y hx hy h = digits-eq w x y hx hy (λ k l. same-digit (digit x k) (d
 
 pub pack-is : (w x : ℕ) (f : ℕ → Bool) → x < 2 ^ w → ((k : ℕ) → k < w → bitOf x k ≡ f k) → x ≡ packTo f w
 pack-is w x f hx h = bits-eq w x (packTo f w) hx (pack-lt f w) (λ k l. h k l ∙ sym (pack-bit f w k l))
+
+-- the lowest digits of a number, and those that it lacks
+pub low-pack : (x n : ℕ) → x % 2 ^ n ≡ packTo (bitOf x) n
+low-pack x n = pack-is n (x % 2 ^ n) (bitOf x) (mod-lt x (pow-pos n)) (bit-mod n x)
+
+pub pack-not : (p : ℕ → Bool) (n : ℕ) → packTo p n + packTo (λ k. not (p k)) n + 1 ≡ 2 ^ n
+unfolding sumTo
+pack-not p zero = refl
+pack-not p (suc n) = elim (test (p n)) [
+  | inl t ↦ rw t (omega (arith, pack-not p n, pow-suc 2 n, one-mul (2 ^ n), zero-mul (2 ^ n)))
+  | inr t ↦ rw t (omega (arith, pack-not p n, pow-suc 2 n, one-mul (2 ^ n), zero-mul (2 ^ n)))
+]
 
 -- ---- a number without its lowest s digits
 
@@ -152,3 +171,68 @@ trim-low x s j h =
     ap (λ m. a * 2 ^ m) (sym e) ∙ ap (λ y. a * y) (pow-add 2 (r + 1) j ∙ ap (λ y. y * 2 ^ j) (pow-add 2 r 1))
     ∙ sym (mul-assoc a (2 ^ r * 2) (2 ^ j)) ∙ ap (λ y. y * 2 ^ j) (sym (mul-assoc a (2 ^ r) 2)) in
     ap (λ y. eqb (y % 2) 1) (ap (λ y. y / 2 ^ j) p ∙ shl-shr (a * 2 ^ r * 2) j) ∙ ne-eqb (a * 2 ^ r * 2 % 2) 1 (λ q. omega arith)
+
+-- ---- a number without the lowest digit that is set: `x & (x - 1)`
+
+-- t is that digit
+pub record LowDigit (x t : ℕ) : Type 0 where
+  pub on : bitOf x t ≡ true
+  pub off : bitOf (bitAnd x (x - 1)) t ≡ false
+  pub others : (i : ℕ) → i ≢ t → bitOf (bitAnd x (x - 1)) i ≡ bitOf x i
+
+low-bit : (x : ℕ) → bitOf x 0 ≡ eqb (x % 2) 1
+unfolding bitOf digit
+low-bit x = ap (λ (y : ℕ). eqb (y % 2) 1) (div-one x)
+
+bit-half : (x i : ℕ) → bitOf x (suc i) ≡ bitOf (x / 2) i
+unfolding bitOf digit
+bit-half x i = ap (λ (y : ℕ). eqb (y % 2) 1) (ap (λ (m : ℕ). x / 2 ^ m) (sym (one-add i)) ∙ sym (shr-shr x 1 i))
+
+twice-low : (z : ℕ) → bitOf (z * 2) 0 ≡ false
+twice-low z = low-bit (z * 2) ∙ ne-eqb (z * 2 % 2) 1 (λ e. omega arith)
+
+twice-high : (z i : ℕ) → bitOf (z * 2) (suc i) ≡ bitOf z i
+twice-high z i = bit-half (z * 2) i ∙ ap (λ (y : ℕ). bitOf y i) {x = z * 2 / 2} {y = z} (omega arith)
+
+module _ (x : ℕ) (p : 0 < x) where
+  -- of an even number twice what is left of its half is left, and of an odd one twice its half
+  left-even : x % 2 ≡ 0 → bitAnd x (x - 1) ≡ bitAnd (x / 2) (x / 2 - 1) * 2
+  left-even e =
+      let half : (x - 1) / 2 ≡ x / 2 - 1 = omega arith in
+      and-step x (x - 1) ∙ ap (λ y. bitAnd (x / 2) y * 2 + min (x % 2) ((x - 1) % 2)) half ∙ omega arith
+
+  left-odd : x % 2 ≡ 1 → bitAnd x (x - 1) ≡ x / 2 * 2
+  left-odd e =
+      let half : (x - 1) / 2 ≡ x / 2 = omega arith in
+      and-step x (x - 1) ∙ ap (λ y. bitAnd (x / 2) y * 2 + min (x % 2) ((x - 1) % 2)) half ∙ omega (arith, and-self (x / 2))
+
+  low-even : x % 2 ≡ 0 → {t : ℕ} → LowDigit (x / 2) t → LowDigit x (suc t)
+  low-even e {t} l = record {
+    on = bit-half x t ∙ l .on;
+    off = ap (λ y. bitOf y (suc t)) (left-even e) ∙ twice-high _ t ∙ l .off;
+    others = others;
+  }
+    where
+      others : (i : ℕ) → i ≢ suc t → bitOf (bitAnd x (x - 1)) i ≡ bitOf x i
+      others zero d = ap (λ y. bitOf y 0) (left-even e) ∙ twice-low _ ∙ sym (low-bit x ∙ ne-eqb (x % 2) 1 (λ q. omega arith))
+      others (suc i) d = ap (λ y. bitOf y (suc i)) (left-even e) ∙ twice-high _ i ∙ l .others i (λ q. d (ap suc q)) ∙ sym (bit-half x i)
+
+  low-odd : x % 2 ≡ 1 → LowDigit x 0
+  low-odd e = record {
+    on = low-bit x ∙ eq-eqb (x % 2) 1 e;
+    off = ap (λ y. bitOf y 0) (left-odd e) ∙ twice-low _;
+    others = others;
+  }
+    where
+      others : (i : ℕ) → i ≢ 0 → bitOf (bitAnd x (x - 1)) i ≡ bitOf x i
+      others zero d = absurd (d refl)
+      others (suc i) d = ap (λ y. bitOf y (suc i)) (left-odd e) ∙ twice-high _ i ∙ sym (bit-half x i)
+
+-- as code finds it in a word of w digits, by the zeros below it
+pub low-digit : (w x : ℕ) → 0 < x → x < 2 ^ w → LowDigit x (trailingZeros w x)
+unfolding trailingZeros
+low-digit zero x p h = absurd (omega arith)
+low-digit (suc w) x p h = elim (ℕ-discrete (x % 2) 0) [
+  | yes e ↦ rw e (low-even x p e (low-digit w (x / 2) (omega arith) (omega (arith, pow-suc 2 w))))
+  | no d ↦ let e : x % 2 ≡ 1 = omega arith in rw e (low-odd x p e)
+]

@@ -39,7 +39,7 @@ pub record Meets (c : Case) : Type 0 where
   pub topIs : listCall (stateReached c) (9 ∷ 9 ∷ []) (replicate (c .nodes) 9) .entries ≡ c .top
 
 abbrev pub half : ℕ
-half = 36100888223400
+half = 2671465728531600
 
 abbrev pub almost : List Call
 almost = add 0 1 ∷ add 0 2 ∷ add 0 3 ∷ add 1 2 ∷ add 1 3 ∷ []
@@ -70,8 +70,8 @@ table =
     -- Path 0–1, then add 1–2: post 1 goes from 0 to 1.
     case 3 (add 0 1 ∷ []) (0x80 ∷ []) (0 ∷ 0 ∷ 0 ∷ []) (0 ∷ 0 ∷ []) ∷
     case 3 (add 0 1 ∷ add 1 2 ∷ []) (0xA0 ∷ []) (0 ∷ unit ∷ 0 ∷ []) (1 ∷ unit ∷ []) ∷
-    -- Document 000, Example 1: 14/3, or 336,941,623,418,400.
-    case 7 document (0xE4 ∷ 0x87 ∷ 0xF8 ∷ []) (0 ∷ 0 ∷ 180504441117000 ∷ half ∷ half ∷ half ∷ 336941623418400 ∷ []) (6 ∷ 336941623418400 ∷ []) ∷
+    -- Document 000, Example 1: 14/3, or 24,933,680,132,961,600.
+    case 7 document (0xE4 ∷ 0x87 ∷ 0xF8 ∷ []) (0 ∷ 0 ∷ 5 * half ∷ half ∷ half ∷ half ∷ 24933680132961600 ∷ []) (6 ∷ 24933680132961600 ∷ []) ∷
     -- Original 0–1; mine also has 0–2; theirs has none: only 0–2 stays.
     case 3 (add 0 1 ∷ add 0 2 ∷ reconcile (0x00 ∷ []) (0x80 ∷ []) ∷ []) (0x40 ∷ []) (0 ∷ 0 ∷ 0 ∷ []) (0 ∷ 0 ∷ []) ∷
     []

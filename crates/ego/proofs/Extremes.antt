@@ -77,12 +77,12 @@ module _ (g : Graph) (simple : Simple g) (n p : ℕ) (apart : Apart g n p) where
   unfolding bound
   apart-bound = apart-pairs
 
-  -- WITH AS MANY EDGES AS A NODE MAY HAVE it is the largest score, 496 times 1.
-  pub apart-most : degree g n p ≡ limit → score g n p ≡ 35812081117612800
+  -- WITH AS MANY EDGES AS A NODE MAY HAVE it is the largest score, 780 times 1.
+  pub apart-most : degree g n p ≡ limit → score g n p ≡ 4167486536509296000
   unfolding pairCount
   apart-most e = apart-pairs ∙ rw e
 
-pub largest-is : _≡_ {A = ℕ} (496 * unit) 35812081117612800
+pub largest-is : _≡_ {A = ℕ} (780 * unit) 4167486536509296000
 largest-is = refl
 
 -- ---- a graph that has such a node
@@ -116,5 +116,5 @@ star-degree n =
     ∙ count-all (λ q. star 0 (suc q)) n (λ q h. rw (ne-eqb (suc q) 0 (suc-ne-zero q)))
 
 -- THE LARGEST SCORE IS REACHED: the middle of a star with as many edges as a node may have.
-pub star-most : score star (limit + 1) 0 ≡ 35812081117612800
+pub star-most : score star (limit + 1) 0 ≡ 4167486536509296000
 star-most = apart-most star star-simple (limit + 1) 0 (star-apart (limit + 1)) (star-degree limit)

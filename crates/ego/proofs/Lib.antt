@@ -7,7 +7,9 @@ pub mod Examples
 pub mod Extremes
 pub mod Faithful
 pub mod FoundLaws
+pub mod JoinLaws
 pub mod Local
+pub mod RowLaws
 pub mod Shares
 pub mod Walks
 pub mod WithPair

@@ -3,8 +3,8 @@ use Prim.Native.Nat.{ℕ}
 
 -- the most edges that a node may have
 abbrev pub limit : ℕ
-limit = 32
+limit = 40
 
 -- 01's grains: so many make 1
 abbrev pub unit : ℕ
-unit = 72201776446800
+unit = 5342931457063200

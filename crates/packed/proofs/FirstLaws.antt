@@ -6,7 +6,7 @@ use mathlib.Core.Logic.{inl, inr}
 use mathlib.Core.Path.{ap, ap₂, refl, subst, sym, _∙_, _≡_}
 use Prim.Native.Nat.{_%_, _*_, _+_, _-_, _/_, _<_, _^_, suc, zero, zero-le, ℕ, _≤_}
 use native.Mathlib.Decide.{decLt}
-use native.Mathlib.Nat.{div-eq-of-lt, le-refl, lt-of-lt-of-le, mod-eq-of-lt, mod-lt, mul-add-mod-self-right, one-mul, pow-suc, zero-lt-suc}
+use native.Mathlib.Nat.{le-refl, lt-of-lt-of-le, mod-eq-of-lt, mod-lt, mul-add-mod-self-right, one-mul, pow-suc, zero-lt-suc}
 use native.Mathlib.Omega.{arith}
 use lib.Bits.{and-mask, bitAnd, bitXor, xor-shr, xor-step}
 use lib.Bits as Lib
@@ -15,7 +15,7 @@ use lib.Dec.{eqb}
 use lib.Pow.{high, low, ones-lt, ones-split, pow-mono, pow-pos}
 use Rattle.arith.proofs.Least.{leastFrom-hit, leastFrom-miss}
 use Rattle.arith.proofs.Tests.{test}
-use Rattle.arith.proofs.Words.{bit-mod}
+use Rattle.arith.proofs.Words.{bit-mod, past-top}
 use Rattle.arith.specs.Digits.{bitOf, digit}
 use Rattle.arith.specs.Lists.{leastFrom}
 use Rattle.packed.proofs.RunLaws.{run-bit, run-cat, run-lt, shifted-one}
@@ -51,12 +51,7 @@ module _ (passes : ℕ → Bool) where
 
 -- ---- in a word
 
--- no digit above a number's length is set
-past-top : (x m k : ℕ) → x < 2 ^ m → m ≤ k → bitOf x k ≡ false
-unfolding bitOf digit
-past-top x m k h l = ap (λ (y : ℕ). eqb (y % 2) 1) (div-eq-of-lt (lt-of-lt-of-le h (pow-mono l)))
-
--- its top digit is
+-- a number's top digit is set
 at-top : (x k : ℕ) → 2 ^ k ≤ x → x < 2 ^ suc k → bitOf x k ≡ true
 unfolding bitOf digit
 at-top x k lo hi =

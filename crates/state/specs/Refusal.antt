@@ -77,7 +77,7 @@ badSnapshot snapshot =
 unfoldable pub otherCount : ℕ → List ℕ → Condition
 otherCount n snapshot = (10, not (eqb (snapshotNodes snapshot) n))
 
--- One of the nodes that are looked at has more than 32 links.
+-- One of the nodes that are looked at has more than 40 links.
 unfoldable pub tooMany : Graph → ℕ → (ℕ → Bool) → Bool
 tooMany g n which = anyTo (λ p. which p && ltb limit (degree g n p)) n
 
@@ -91,10 +91,10 @@ ends a b p = eqb p a || eqb p b
 unfoldable pub touched : Graph → ℕ → ℕ → ℕ → Bool
 touched g a b p = ends a b p || (g a p && g b p)
 
--- 11. Before the call, a post has more than 32 links; g is the graph before the call.
+-- 11. Before the call, a post has more than 40 links; g is the graph before the call.
 unfoldable pub crowdedBefore : Graph → ℕ → (ℕ → Bool) → Condition
 crowdedBefore g n which = (11, tooMany g n which)
 
--- 12. After the call a post would have more than 32; g is the graph after the call.
+-- 12. After the call a post would have more than 40; g is the graph after the call.
 unfoldable pub crowdedAfter : Graph → ℕ → (ℕ → Bool) → Condition
 crowdedAfter g n which = (12, tooMany g n which)
