@@ -2,7 +2,7 @@
 
 use crate::memory::{Call, Kind, Memory};
 use crate::plain::graph::Graph;
-use crate::plain::limits::{bound, MAX_DEGREE};
+use crate::plain::limits::{MAX_DEGREE, UNIT};
 use crate::plain::packing::{bit, edge_bytes, mark_bytes, pair_count, pair_index, put_bit};
 use crate::rng::Rng;
 
@@ -91,7 +91,46 @@ fn put_figure(memory: &mut Memory, p: usize, figure: u64) {
     memory.figures[8 * p..8 * p + 8].copy_from_slice(&figure.to_le_bytes());
 }
 
-/// A state of the right lengths: honest ceilings or false figures, any marks, any spare bits.
+/// The most neighbour pairs of a node within the limit.
+const MAX_PAIRS: usize = MAX_DEGREE * (MAX_DEGREE - 1) / 2;
+
+/// The ceiling of p; where p is above the limit, at most the largest of a node within it.
+fn ceiling(graph: &Graph, p: usize) -> u64 {
+    graph.unjoined_pairs(p).len().min(MAX_PAIRS) as u64 * UNIT
+}
+
+/// A figure at a ceiling or at the next ones, or a grain beside: an add among p's neighbours lowers p's by a unit, a
+/// remove raises it by one.
+fn near(rng: &mut Rng, ceiling: u64) -> u64 {
+    let other = match rng.below(8) {
+        0..=2 => ceiling,
+        3..=5 => ceiling.saturating_sub(UNIT),
+        6 => ceiling.saturating_sub(2 * UNIT),
+        _ => ceiling + UNIT,
+    };
+    match rng.below(4) {
+        0 => other.saturating_sub(1),
+        1 => other + 1,
+        _ => other,
+    }
+}
+
+/// A whole number of units, at most a unit above the largest ceiling.
+fn some_units(rng: &mut Rng) -> u64 {
+    rng.between(0, MAX_PAIRS + 1) as u64 * UNIT
+}
+
+/// The figures of some nodes come to lie near their ceilings, and their marks may be any.
+fn approach(rng: &mut Rng, n: usize, memory: &mut Memory, nodes: impl FnOnce(&Graph) -> Vec<usize>) {
+    let graph = Graph::read(n, &memory.edges);
+    for p in nodes(&graph) {
+        let figure = near(rng, ceiling(&graph, p));
+        put_figure(memory, p, figure);
+        put_bit(&mut memory.marks, p, rng.chance(50));
+    }
+}
+
+/// A state of the right lengths: ceilings, figures near them or false figures, any marks, any spare bits.
 pub fn state(rng: &mut Rng, n: usize) -> Memory {
     let mut memory = Memory {
         edges: random_edges(rng, n),
@@ -100,13 +139,14 @@ pub fn state(rng: &mut Rng, n: usize) -> Memory {
         ..Memory::default()
     };
     let graph = Graph::read(n, &memory.edges);
-    let style = rng.below(4);
+    let style = rng.below(8);
     for p in 0..n {
         let figure = match style {
-            0 => bound(graph.degree(p).min(MAX_DEGREE)),
+            0 => ceiling(&graph, p),
             1 => rng.next(),
-            2 => bound(rng.between(0, MAX_DEGREE)),
-            _ => rng.below(3) as u64,
+            2 => some_units(rng),
+            3 => rng.below(3) as u64,
+            _ => near(rng, ceiling(&graph, p)),
         };
         put_figure(&mut memory, p, figure);
     }
@@ -129,22 +169,35 @@ pub fn corrupt(rng: &mut Rng, n: usize, memory: &mut Memory) {
         1 => memory.marks = rng.bytes(mark_bytes(n)),
         2 => set_spare(rng, &mut memory.edges, pair_count(n)),
         _ => {
-            let figure = if rng.chance(50) { rng.next() } else { bound(rng.between(0, MAX_DEGREE)) };
             let p = rng.below(n);
+            let figure = match rng.below(3) {
+                0 => rng.next(),
+                1 => some_units(rng),
+                _ => near(rng, ceiling(&Graph::read(n, &memory.edges), p)),
+            };
             put_figure(memory, p, figure);
         }
     }
 }
 
-/// A pair of nodes, joined or not as wished where one is soon found.
+/// A pair of nodes, joined or not as wished where one is soon found; half of the time, neighbours of one node first.
 fn pair(rng: &mut Rng, n: usize, edges: &[u8], joined: bool) -> (usize, usize) {
-    let mut found = (rng.below(n), rng.below(n));
-    for _ in 0..200 {
+    let all: Vec<usize> = (0..n).collect();
+    let mut first = all.clone();
+    if rng.chance(50) {
+        let neighbours = Graph::read(n, edges).neighbours(rng.below(n));
+        if neighbours.len() > 1 {
+            first = neighbours;
+        }
+    }
+    let mut found = (rng.pick(&first), rng.pick(&first));
+    for attempt in 0..200 {
         let (a, b) = found;
         if a != b && bit(edges, pair_index(a, b)) == joined {
             break;
         }
-        found = (rng.below(n), rng.below(n));
+        let nodes = if attempt < 50 { &first } else { &all };
+        found = (rng.pick(nodes), rng.pick(nodes));
     }
     found
 }
@@ -179,6 +232,20 @@ pub fn next_call(rng: &mut Rng, n: usize, memory: &mut Memory) -> Call {
     call_of_kind(rng, n, memory, kind)
 }
 
+/// Theirs and the base of a reconcile.
+fn bring_theirs(rng: &mut Rng, n: usize, memory: &mut Memory) {
+    let most = if rng.chance(10) { 60 } else { 8 };
+    memory.base = varied(rng, n, &memory.edges, most);
+    let base = memory.base.clone();
+    memory.theirs = if rng.chance(8) { random_edges(rng, n) } else { varied(rng, n, &base, most) };
+    if rng.chance(30) {
+        set_spare(rng, &mut memory.theirs, pair_count(n));
+    }
+    if rng.chance(20) {
+        approach(rng, n, memory, |_| (0..n).collect());
+    }
+}
+
 /// A call of this kind that is mostly accepted.
 pub fn call_of_kind(rng: &mut Rng, n: usize, memory: &mut Memory, kind: Kind) -> Call {
     let mut call = Call { kind, n: n as u64, a: 0, b: 0 };
@@ -188,8 +255,10 @@ pub fn call_of_kind(rng: &mut Rng, n: usize, memory: &mut Memory, kind: Kind) ->
         Kind::Add | Kind::Remove => {
             let joined = (kind == Kind::Remove) == rng.chance(94);
             let (a, b) = pair(rng, n, &memory.edges, joined);
-            call.a = a as u64;
-            call.b = b as u64;
+            (call.a, call.b) = (a as u64, b as u64);
+            if rng.chance(20) {
+                approach(rng, n, memory, |graph| graph.common(a, b));
+            }
         }
         Kind::Load => {
             memory.snapshot = vec![(n - 1) as u8];
@@ -200,15 +269,7 @@ pub fn call_of_kind(rng: &mut Rng, n: usize, memory: &mut Memory, kind: Kind) ->
             }
         }
         Kind::Write => memory.snapshot = rng.bytes(1 + edge_bytes(n)),
-        Kind::Reconcile => {
-            let most = if rng.chance(10) { 60 } else { 8 };
-            memory.base = varied(rng, n, &memory.edges, most);
-            let base = memory.base.clone();
-            memory.theirs = if rng.chance(8) { random_edges(rng, n) } else { varied(rng, n, &base, most) };
-            if rng.chance(30) {
-                set_spare(rng, &mut memory.theirs, pair_count(n));
-            }
-        }
+        Kind::Reconcile => bring_theirs(rng, n, memory),
         Kind::List | Kind::ListEntries => {
             let k = match rng.below(10) {
                 0 => n,

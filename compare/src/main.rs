@@ -14,7 +14,8 @@ const USAGE: &str = "usage:
   compare compare-tuned [SEED [CALLS]]  the tuned version against the plain version
   compare compare-replay PROGRAM [SEED [SCRIPTS]]
                                         a script program against the plain one, on random scripts
-  compare bench                         a table of times, the library beside the tuned version
+  compare bench                         tables of times and of the work of a list, the library
+                                        beside the tuned version
   compare pack [FILE]                   a text to a script; reads standard input without FILE
   compare unpack [FILE]                 a script to a text
   compare replay-plain [FILE]           what the script program prints for a script";

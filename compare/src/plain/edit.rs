@@ -21,8 +21,8 @@ fn check_crowded(graph: &Graph, a: usize, b: usize) -> Result<(), Refusal> {
     refuse_if(touched.iter().any(|&p| graph.is_crowded(p)), Refusal::Crowded)
 }
 
-/// Sets the bit. Both ends take the ceiling of their new edge count and become open. Each common
-/// neighbour keeps its figure and becomes open.
+/// Sets the bit. Both ends take their new ceilings and become open. Each common neighbour takes the
+/// smaller of its stored figure and its new ceiling and becomes open.
 pub fn add(mut state: State, a: u64, b: u64) -> Result<(), Refusal> {
     let (a, b) = check_pair(&state, a, b)?;
     let mut graph = state.graph();
@@ -34,12 +34,12 @@ pub fn add(mut state: State, a: u64, b: u64) -> Result<(), Refusal> {
     state.renew(&graph, a);
     state.renew(&graph, b);
     for w in graph.common(a, b) {
-        state.open(w);
+        state.cap(&graph, w);
     }
     Ok(())
 }
 
-/// Clears the bit. Both ends and every common neighbour take their ceilings and become open.
+/// Clears the bit. Both ends and every common neighbour take their new ceilings and become open.
 pub fn remove(mut state: State, a: u64, b: u64) -> Result<(), Refusal> {
     let (a, b) = check_pair(&state, a, b)?;
     let mut graph = state.graph();

@@ -1,6 +1,7 @@
 //! Every call in plain Rust, written from the description alone and kept as simple as it allows:
 //! the yardstick of the comparison. Nothing here is tuned.
 
+pub mod bound;
 pub mod calls;
 pub mod clear;
 pub mod derived;

@@ -1,7 +1,8 @@
 //! The three buffers that a caller lends, and the conditions that every call over them tests first.
 
+use super::bound::bound;
 use super::graph::Graph;
-use super::limits::{bound, MAX_NODES};
+use super::limits::MAX_NODES;
 use super::packing::{bit, edge_bytes, mark_bytes, put_bit};
 use super::refusal::{refuse_if, Refusal};
 
@@ -34,7 +35,7 @@ impl State<'_> {
         bit(self.marks, p)
     }
 
-    pub fn open(&mut self, p: usize) {
+    fn open(&mut self, p: usize) {
         put_bit(self.marks, p, true);
     }
 
@@ -44,7 +45,13 @@ impl State<'_> {
 
     /// p takes its ceiling in `graph` and becomes open.
     pub fn renew(&mut self, graph: &Graph, p: usize) {
-        self.figures[p] = bound(graph.degree(p));
+        self.figures[p] = bound(graph, p);
+        self.open(p);
+    }
+
+    /// p takes the smaller of its stored figure and its ceiling in `graph` and becomes open.
+    pub fn cap(&mut self, graph: &Graph, p: usize) {
+        self.figures[p] = self.figures[p].min(bound(graph, p));
         self.open(p);
     }
 }

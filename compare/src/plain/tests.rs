@@ -1,8 +1,10 @@
 //! The description's worked cases, run on the plain version with both ways to score.
 
+mod bounds;
+
 use super::calls::Plain;
-use super::limits::{bound, MAX_DEGREE, UNIT};
-use super::packing::{edge_bytes, mark_bytes};
+use super::limits::UNIT;
+use super::packing::{bit, edge_bytes, mark_bytes};
 use super::replay::replay;
 use super::{derived, paths};
 use crate::calls::Calls;
@@ -12,6 +14,10 @@ const BOTH: [Plain; 2] =
 
 /// A numerator and a denominator.
 type Fraction = (u64, u64);
+
+/// The neighbourhood of the source's example 1: d is 0, and a b c g h i are 1 to 6.
+const EGO_OF_D: [(u64, u64); 13] =
+    [(0, 1), (0, 2), (0, 3), (0, 4), (0, 5), (0, 6), (1, 2), (1, 3), (2, 3), (3, 4), (3, 5), (4, 6), (5, 6)];
 
 /// The edges of document 000's example graph.
 const EXAMPLE_EDGES: &str = "ab ac ad ae bc bd bf cd ce cf cg ch dg dh di eg ei ej fh fi fk fx gi hi ij jk ux vx xy xz";
@@ -48,6 +54,7 @@ fn vertex(name: &str) -> u64 {
 }
 
 /// A state that owns its buffers.
+#[derive(Clone, Debug, PartialEq, Eq)]
 struct Board {
     n: usize,
     edges: Vec<u8>,
@@ -78,11 +85,41 @@ impl Board {
         (0..self.n).map(|p| plain.score(self.n as u64, &self.edges, p as u64)).collect()
     }
 
+    /// The stored figures.
+    fn figures(&self) -> Vec<u64> {
+        self.figures.chunks(8).map(|b| u64::from_le_bytes(b.try_into().unwrap())).collect()
+    }
+
+    fn put_figures(&mut self, figures: &[u64]) {
+        self.figures = figures.iter().flat_map(|figure| figure.to_le_bytes()).collect();
+    }
+
+    /// The open nodes, in order.
+    fn open(&self) -> Vec<usize> {
+        (0..self.n).filter(|&p| bit(&self.marks, p)).collect()
+    }
+
+    fn load(&mut self, plain: &Plain, edges: &[u8]) -> u64 {
+        let mut figures = self.figures();
+        let snapshot = [&[(self.n - 1) as u8], edges].concat();
+        let answer = plain.load(&mut self.edges, &mut figures, &mut self.marks, &snapshot);
+        self.put_figures(&figures);
+        answer
+    }
+
+    fn reconcile(&mut self, plain: &Plain, theirs: &[u8], base: &[u8]) -> u64 {
+        let mut figures = self.figures();
+        let answer = plain.reconcile(&mut self.edges, &mut figures, &mut self.marks, theirs, base);
+        self.put_figures(&figures);
+        answer
+    }
+
     fn list(&mut self, plain: &Plain, k: usize) -> (u64, Vec<u64>) {
-        let mut figures: Vec<u64> = self.figures.chunks(8).map(|b| u64::from_le_bytes(b.try_into().unwrap())).collect();
+        let mut figures = self.figures();
         let mut entries = vec![7; 2 * k];
         let mut scratch = vec![9; self.n];
         let worked = plain.list(&mut self.edges, &mut figures, &mut self.marks, &mut entries, &mut scratch);
+        self.put_figures(&figures);
         assert_eq!(scratch, vec![0; self.n]);
         (worked, entries)
     }
@@ -106,10 +143,11 @@ fn a_star_of_40_edges_has_the_largest_score() {
     const LARGEST: u64 = 4_167_486_536_509_296_000;
     let edges: Vec<(u64, u64)> = (1..=40).map(|q| (0, q)).collect();
     for plain in &BOTH {
-        assert_eq!(Board::with(plain, 41, &edges).scores(plain)[0], LARGEST);
+        let board = Board::with(plain, 41, &edges);
+        assert_eq!(board.scores(plain)[0], LARGEST);
+        assert_eq!(board.figures()[0], LARGEST);
     }
     assert_eq!(LARGEST, 780 * UNIT);
-    assert_eq!(LARGEST, bound(MAX_DEGREE));
 }
 
 #[test]
@@ -181,11 +219,8 @@ fn the_middle_of_a_path_goes_from_0_to_1() {
 
 #[test]
 fn example_1_of_the_source_scores_14_thirds() {
-    // d is 0; a b c g h i are 1 to 6
-    let edges =
-        [(0, 1), (0, 2), (0, 3), (0, 4), (0, 5), (0, 6), (1, 2), (1, 3), (2, 3), (3, 4), (3, 5), (4, 6), (5, 6)];
     for plain in &BOTH {
-        let board = Board::with(plain, 7, &edges);
+        let board = Board::with(plain, 7, &EGO_OF_D);
         assert_eq!(board.scores(plain)[0], 24_933_680_132_961_600);
         assert_eq!(3 * board.scores(plain)[0], 14 * UNIT);
     }
@@ -215,9 +250,7 @@ fn reconcile_keeps_only_what_mine_added() {
         let mut mine = Board::with(plain, 3, &[(0, 1), (0, 2)]);
         let base = Board::with(plain, 3, &[(0, 1)]).edges;
         let theirs = Board::with(plain, 3, &[]).edges;
-        let mut figures = [0; 3];
-        let answer = plain.reconcile(&mut mine.edges, &mut figures, &mut mine.marks, &theirs, &base);
-        assert_eq!(answer, 0);
+        assert_eq!(mine.reconcile(plain, &theirs, &base), 0);
         assert_eq!(mine.edges, Board::with(plain, 3, &[(0, 2)]).edges);
     }
 }

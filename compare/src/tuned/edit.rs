@@ -1,12 +1,17 @@
 //! Clear, add and remove over figures that are bytes.
 
+use super::bound::{bound, inside};
 use super::refuse::{
-    self, bound, BUFFER_LENGTH, CROWDED, EDGE_EXISTS, LIMIT, NO_SUCH_EDGE, NO_SUCH_NODE, SAME_NODE, WOULD_CROWD,
+    self, BUFFER_LENGTH, CROWDED, EDGE_EXISTS, LIMIT, NO_SUCH_EDGE, NO_SUCH_NODE, SAME_NODE, WOULD_CROWD,
 };
-use super::rows::{bit, both, count, degree, each, pair, row, set_bit};
+use super::rows::{bit, both, count, each, each_of, either, flip, lower, pair, row, set_bit, Row, EMPTY};
 
 fn put(figures: &mut [u8], p: usize, figure: u64) {
     figures[8 * p..8 * p + 8].copy_from_slice(&figure.to_le_bytes());
+}
+
+fn get(figures: &[u8], p: usize) -> u64 {
+    u64::from_le_bytes(figures[8 * p..8 * p + 8].try_into().expect("eight bytes"))
 }
 
 fn check(n: u64, edges: &[u8], figures: &[u8], marks: &[u8]) -> u64 {
@@ -27,6 +32,46 @@ pub fn clear(n: u64, edges: &mut [u8], figures: &mut [u8], marks: &mut [u8]) -> 
     refusal
 }
 
+/// The nodes that an edit touches, its ends first, each with its row.
+struct Touched {
+    nodes: [u8; LIMIT + 2],
+    rows: [Row; LIMIT + 2],
+    length: usize,
+}
+
+impl Touched {
+    fn push(&mut self, edges: &[u8], n: usize, p: usize) {
+        self.nodes[self.length] = p as u8;
+        self.rows[self.length] = row(edges, n, p);
+        self.length += 1;
+    }
+
+    fn crowded(&self) -> bool {
+        self.rows[..self.length].iter().any(|own| count(own) > LIMIT)
+    }
+}
+
+/// What an edit touches, with the rows after it, or its refusal.
+#[inline]
+fn touched(n: usize, edges: &[u8], a: usize, b: usize, adds: bool) -> Result<Touched, u64> {
+    let mut touched = Touched { nodes: [0; LIMIT + 2], rows: [EMPTY; LIMIT + 2], length: 0 };
+    touched.push(edges, n, a);
+    touched.push(edges, n, b);
+    if touched.crowded() {
+        return Err(CROWDED);
+    }
+    each(&both(&touched.rows[0], &touched.rows[1]), |w| touched.push(edges, n, w));
+    if touched.crowded() {
+        return Err(CROWDED);
+    }
+    flip(&mut touched.rows[0], b);
+    flip(&mut touched.rows[1], a);
+    if adds && touched.crowded() {
+        return Err(WOULD_CROWD);
+    }
+    Ok(touched)
+}
+
 pub fn edit(n: u64, edges: &mut [u8], figures: &mut [u8], marks: &mut [u8], a: u64, b: u64, adds: bool) -> u64 {
     let refusal = check(n, edges, figures, marks);
     if refusal != 0 {
@@ -39,44 +84,26 @@ pub fn edit(n: u64, edges: &mut [u8], figures: &mut [u8], marks: &mut [u8], a: u
         return SAME_NODE;
     }
     let (n, a, b) = (n as usize, a as usize, b as usize);
-    let index = if a < b { pair(a, b) } else { pair(b, a) };
+    let index = pair(a.min(b), a.max(b));
     if bit(edges, index) == adds {
         return if adds { EDGE_EXISTS } else { NO_SUCH_EDGE };
     }
-    let (row_a, row_b) = (row(edges, n, a), row(edges, n, b));
-    let (degree_a, degree_b) = (count(&row_a), count(&row_b));
-    if degree_a > LIMIT || degree_b > LIMIT {
-        return CROWDED;
-    }
-    let common = both(&row_a, &row_b);
-    let mut degrees = [0_u8; LIMIT];
-    let mut found = 0;
-    let mut crowded = false;
-    each(&common, |w| {
-        let degree = degree(edges, n, w);
-        crowded |= degree > LIMIT;
-        degrees[found] = degree as u8;
-        found += 1;
-    });
-    if crowded {
-        return CROWDED;
-    }
-    if adds && (degree_a == LIMIT || degree_b == LIMIT) {
-        return WOULD_CROWD;
-    }
+    let touched = match touched(n, edges, a, b, adds) {
+        Ok(touched) => touched,
+        Err(refusal) => return refusal,
+    };
     edges[index / 8] ^= 128 >> (index % 8);
-    let step = if adds { 1 } else { usize::MAX };
-    put(figures, a, bound(degree_a.wrapping_add(step)));
-    put(figures, b, bound(degree_b.wrapping_add(step)));
-    set_bit(marks, a);
-    set_bit(marks, b);
-    found = 0;
-    each(&common, |w| {
-        set_bit(marks, w);
-        if !adds {
-            put(figures, w, bound(usize::from(degrees[found])));
+    let rows = &touched.rows[..touched.length];
+    let mut low = vec![EMPTY; n];
+    each_of(&rows.iter().fold(EMPTY, either), |q| low[q] = lower(edges, q));
+    for (place, (&p, own)) in touched.nodes.iter().zip(rows).enumerate() {
+        let p = usize::from(p);
+        let mut figure = bound(count(own), inside(own, &low));
+        if adds && place > 1 {
+            figure = figure.min(get(figures, p));
         }
-        found += 1;
-    });
+        put(figures, p, figure);
+        set_bit(marks, p);
+    }
     0
 }

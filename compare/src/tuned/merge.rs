@@ -1,7 +1,8 @@
 //! Reconcile: the changed bits found 64 at a time, the edits made on rows.
 
-use super::refuse::{self, any_over, bound, BUFFER_LENGTH, CROWDED, WOULD_CROWD};
-use super::rows::{both, each, flip, rows, set_bit, Row};
+use super::bound::{bound, inside};
+use super::refuse::{self, any_over, BUFFER_LENGTH, CROWDED, WOULD_CROWD};
+use super::rows::{both, count, each, flip, pair, rows, set_bit, Row};
 
 /// Eight bytes from `from`, most significant first, 0 beyond the end.
 fn word(bytes: &[u8], from: usize) -> u64 {
@@ -56,7 +57,7 @@ pub fn reconcile(edges: &mut [u8], figures: &mut [u64], marks: &mut [u8], theirs
     if theirs.len() != edges.len() || base.len() != edges.len() {
         return BUFFER_LENGTH;
     }
-    let (mut rows, mut degrees) = rows(edges, n);
+    let (rows, degrees) = rows(edges, n);
     if any_over(&degrees[..n]) {
         return CROWDED;
     }
@@ -70,36 +71,66 @@ pub fn reconcile(edges: &mut [u8], figures: &mut [u64], marks: &mut [u8], theirs
     if any_over(&after[..n]) {
         return WOULD_CROWD;
     }
+    let mut counts = Counts { rows, degrees, joined: [UNKNOWN; 256] };
     for change in changes.iter().filter(|change| !change.adds) {
-        let common = apply(&mut rows, edges, marks, change);
-        for end in [change.a, change.b] {
-            degrees[end] -= 1;
-            figures[end] = bound(usize::from(degrees[end]));
-        }
-        each(&common, |w| {
-            figures[w] = bound(usize::from(degrees[w]));
-            set_bit(marks, w);
-        });
+        let common = counts.flip(edges, marks, change);
+        figures[change.a] = counts.bound(change.a);
+        figures[change.b] = counts.bound(change.b);
+        each(&common, |w| figures[w] = counts.bound(w));
     }
     for change in changes.iter().filter(|change| change.adds) {
-        let common = apply(&mut rows, edges, marks, change);
-        for end in [change.a, change.b] {
-            degrees[end] += 1;
-            figures[end] = bound(usize::from(degrees[end]));
-        }
-        each(&common, |w| set_bit(marks, w));
+        let common = counts.flip(edges, marks, change);
+        figures[change.a] = counts.bound(change.a);
+        figures[change.b] = counts.bound(change.b);
+        each(&common, |w| figures[w] = figures[w].min(counts.bound(w)));
     }
     0
 }
 
-/// Flips the edge, opens its ends, and gives their common neighbours.
-fn apply(rows: &mut [Row; 256], edges: &mut [u8], marks: &mut [u8], change: &Change) -> Row {
-    let (a, b) = (change.a, change.b);
-    let index = b * (b - 1) / 2 + a;
-    edges[index / 8] ^= 128 >> (index % 8);
-    flip(&mut rows[a], b);
-    flip(&mut rows[b], a);
-    set_bit(marks, a);
-    set_bit(marks, b);
-    both(&rows[a], &rows[b])
+/// The joined pairs of a node that no change has touched.
+const UNKNOWN: u16 = u16::MAX;
+
+/// Rows and degrees, and the joined pairs of neighbours of each node that a change has touched.
+struct Counts {
+    rows: Vec<Row>,
+    degrees: [u16; 256],
+    joined: [u16; 256],
+}
+
+impl Counts {
+    /// Flips the edge, opens its ends and their common neighbours, and gives these.
+    fn flip(&mut self, edges: &mut [u8], marks: &mut [u8], change: &Change) -> Row {
+        let (a, b) = (change.a, change.b);
+        let index = pair(a, b);
+        edges[index / 8] ^= 128 >> (index % 8);
+        flip(&mut self.rows[a], b);
+        flip(&mut self.rows[b], a);
+        let common = both(&self.rows[a], &self.rows[b]);
+        let shared = count(&common) as u16;
+        let step = if change.adds { 1 } else { u16::MAX };
+        for end in [a, b] {
+            self.degrees[end] = self.degrees[end].wrapping_add(step);
+            self.touch(end, step.wrapping_mul(shared));
+            set_bit(marks, end);
+        }
+        each(&common, |w| {
+            self.touch(w, step);
+            set_bit(marks, w);
+        });
+        common
+    }
+
+    /// A change that the rows have already gives p so many more joined pairs.
+    fn touch(&mut self, p: usize, more: u16) {
+        self.joined[p] = if self.joined[p] == UNKNOWN {
+            (inside(&self.rows[p], &self.rows) / 2) as u16
+        } else {
+            self.joined[p].wrapping_add(more)
+        };
+    }
+
+    /// The ceiling of a node that a change has touched.
+    fn bound(&self, p: usize) -> u64 {
+        bound(usize::from(self.degrees[p]), usize::from(self.joined[p]))
+    }
 }

@@ -1,6 +1,7 @@
 //! Every call again, tuned as its author would tune it: bit rows, counts of ones, windows of 64
 //! bits, no pass that is not needed. The benchmark measures the proved library against this.
 
+mod bound;
 mod calls;
 mod edit;
 mod list;

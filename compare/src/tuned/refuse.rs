@@ -1,4 +1,4 @@
-//! Refusal numbers, sizes and ceilings.
+//! Refusal numbers and sizes.
 
 pub const NODE_COUNT: u64 = 1;
 pub const BUFFER_LENGTH: u64 = 2;
@@ -19,12 +19,6 @@ pub const UNIT: u64 = 5_342_931_457_063_200;
 #[inline]
 pub fn edge_bytes(n: usize) -> usize {
     (n * (n - 1) / 2).div_ceil(8)
-}
-
-/// The ceiling of a node of `degree` edges, at most `LIMIT`.
-#[inline]
-pub fn bound(degree: usize) -> u64 {
-    (degree * degree.wrapping_sub(1) / 2) as u64 * UNIT
 }
 
 /// Refusals 1 and 2 of the edges and the marks, 0 where neither applies.

@@ -1,5 +1,7 @@
 //! Rows of the adjacency matrix as sets of 256 bits, most significant first.
 
+use super::refuse::LIMIT;
+
 /// A set of nodes: node a is bit 63 − a mod 64 of word a / 64.
 pub type Row = [u64; 4];
 
@@ -30,6 +32,21 @@ pub fn both(x: &Row, y: &Row) -> Row {
     [x[0] & y[0], x[1] & y[1], x[2] & y[2], x[3] & y[3]]
 }
 
+#[inline]
+pub fn either(x: Row, y: &Row) -> Row {
+    [x[0] | y[0], x[1] | y[1], x[2] | y[2], x[3] | y[3]]
+}
+
+/// The number of nodes below 64 `W` in both sets.
+#[inline]
+pub fn ones_of_both<const W: usize>(x: &Row, y: &Row) -> usize {
+    let mut ones = 0;
+    for place in 0..W {
+        ones += (x[place] & y[place]).count_ones();
+    }
+    ones as usize
+}
+
 /// Calls `visit` with each node of the set, in order.
 #[inline]
 pub fn each(row: &Row, mut visit: impl FnMut(usize)) {
@@ -41,6 +58,40 @@ pub fn each(row: &Row, mut visit: impl FnMut(usize)) {
             left ^= 1 << (63 - lead);
         }
     }
+}
+
+/// Calls `visit` with each node of the set, word by word, in falling order in a word: no step waits for the last one.
+#[inline]
+pub fn each_of(row: &[u64], mut visit: impl FnMut(usize)) {
+    for (place, &word) in row.iter().enumerate() {
+        let mut left = word;
+        while left != 0 {
+            visit(64 * place + 63 - left.trailing_zeros() as usize);
+            left &= left - 1;
+        }
+    }
+}
+
+/// The part of a set that lies below p.
+#[inline]
+pub fn below(row: &Row, p: usize) -> Row {
+    let mut part = EMPTY;
+    for (place, word) in part.iter_mut().enumerate().take(p / 64 + 1) {
+        let left = p - 64 * place;
+        *word = if left < 64 { row[place] & !(u64::MAX >> left) } else { row[place] };
+    }
+    part
+}
+
+/// The nodes of a set of at most `LIMIT`, in order, and their number.
+pub fn members(row: &Row) -> ([usize; LIMIT], usize) {
+    let mut members = [0; LIMIT];
+    let mut length = 0;
+    each(row, |a| {
+        members[length] = a;
+        length += 1;
+    });
+    (members, length)
 }
 
 /// The bit of the pair low < high.
@@ -100,23 +151,12 @@ pub fn row(edges: &[u8], n: usize, p: usize) -> Row {
     row
 }
 
-/// The number of neighbours of p.
-pub fn degree(edges: &[u8], n: usize, p: usize) -> usize {
-    let mut degree = count(&lower(edges, p));
-    let mut index = p * (p + 1) / 2 + p;
-    for b in p + 1..n {
-        degree += usize::from(bit(edges, index));
-        index += b;
-    }
-    degree
-}
-
 /// The degrees of all nodes, in one pass over the edges.
 pub fn degrees(edges: &[u8], n: usize) -> [u16; 256] {
     let mut degrees = [0; 256];
     for b in 1..n {
         let mut own = 0;
-        each(&lower(edges, b), |a| {
+        each_of(&lower(edges, b), |a| {
             degrees[a] += 1;
             own += 1;
         });
@@ -126,14 +166,14 @@ pub fn degrees(edges: &[u8], n: usize) -> [u16; 256] {
 }
 
 /// The rows and the degrees of all nodes, in one pass over the edges.
-pub fn rows(edges: &[u8], n: usize) -> ([Row; 256], [u16; 256]) {
-    let mut rows = [EMPTY; 256];
+pub fn rows(edges: &[u8], n: usize) -> (Vec<Row>, [u16; 256]) {
+    let mut rows = vec![EMPTY; n];
     let mut degrees = [0; 256];
     for b in 1..n {
         let row = lower(edges, b);
         rows[b] = row;
         let mut own = 0;
-        each(&row, |a| {
+        each_of(&row, |a| {
             insert(&mut rows[a], b);
             degrees[a] += 1;
             own += 1;

@@ -1,9 +1,8 @@
 //! Load and write.
 
-use super::refuse::{
-    self, any_over, bound, edge_bytes, BAD_SNAPSHOT, BUFFER_LENGTH, CROWDED, OTHER_NODE_COUNT, WOULD_CROWD,
-};
-use super::rows::degrees;
+use super::bound::{bound, twice_joined};
+use super::refuse::{self, any_over, edge_bytes, BAD_SNAPSHOT, BUFFER_LENGTH, CROWDED, OTHER_NODE_COUNT, WOULD_CROWD};
+use super::rows::{degrees, rows};
 
 /// The mask of the last edge byte's spare bits.
 fn spare(n: usize) -> u8 {
@@ -29,13 +28,14 @@ pub fn load(edges: &mut [u8], figures: &mut [u64], marks: &mut [u8], snapshot: &
     if stated != n {
         return OTHER_NODE_COUNT;
     }
-    let degrees = degrees(bits, n);
+    let (rows, degrees) = rows(bits, n);
     if any_over(&degrees[..n]) {
         return WOULD_CROWD;
     }
     edges.copy_from_slice(bits);
-    for (figure, &degree) in figures.iter_mut().zip(&degrees) {
-        *figure = bound(usize::from(degree));
+    let twice = twice_joined(&rows);
+    for (figure, (&degree, &twice)) in figures.iter_mut().zip(degrees.iter().zip(&twice)) {
+        *figure = bound(usize::from(degree), usize::from(twice) / 2);
     }
     marks.fill(255);
     if !n.is_multiple_of(8) {

@@ -1,13 +1,13 @@
 -- What a filter keeps and how many a count counts. Assumes nothing.
-use mathlib.Core.Bool.{_&&_, Bool, cond, false, true, true≢false}
-use mathlib.Core.List.{_++_, [], List, List·Memᴰ, List·Memᴰ·append-cases, List·Memᴰ·cases-cons, List·Memᴰ·head, List·Memᴰ·not-nil, List·Memᴰ·tail, map, Memᴰ·of-map, _∷_}
-use mathlib.Core.Logic.{inl, inr}
+use mathlib.Core.Bool.{_&&_, Bool, cond, false, not, true, true≢false}
+use mathlib.Core.List.{_++_, [], List, List·Memᴰ, List·Memᴰ·append-cases, List·Memᴰ·cases-cons, List·Memᴰ·head, List·Memᴰ·not-nil, List·Memᴰ·tail, map, Memᴰ·cast, Memᴰ·of-map, _∷_}
+use mathlib.Core.Logic.{inl, inr, _≢_}
 use mathlib.Core.Path.{ap, fun-ext, refl, sym, _∙_, _≡_}
 use Prim.Native.Nat.{_+_, _<_, suc, _≤_}
 use native.Mathlib.Omega.{arith}
 use lib.ListN.{length}
 use Rattle.arith.proofs.Tests.{test}
-use Rattle.arith.specs.Lists.{consIf, count, filter, nonEmpty, pairs}
+use Rattle.arith.specs.Lists.{consIf, count, Distinct, filter, nonEmpty, pairs}
 
 module _ {A : Type 0} where
   pub consIf-cond : (b : Bool) (x : A) → cond b (x ∷ []) [] ≡ consIf b x []
@@ -79,6 +79,11 @@ module _ {A : Type 0} where
   count-most f [] = omega arith
   count-most f (x ∷ xs) = elim (test (f x)) [ inl e ↦ rw e (omega (arith, count-most f xs)) | inr e ↦ rw e (omega (arith, count-most f xs)) ]
 
+  -- those that pass a test, and those that do not
+  pub count-not : (f : A → Bool) (xs : List A) → count f xs + count (λ x. not (f x)) xs ≡ length xs
+  count-not f [] = refl
+  count-not f (x ∷ xs) = elim (test (f x)) [ inl e ↦ rw e (omega (arith, count-not f xs)) | inr e ↦ rw e (omega (arith, count-not f xs)) ]
+
   pub count-miss : (f : A → Bool) (xs : List A) {x : A} → List·Memᴰ x xs → f x ≡ false → count f xs < length xs
   count-miss f [] m e = absurd (List·Memᴰ·not-nil m)
   count-miss f (y ∷ ys) m e =
@@ -89,6 +94,20 @@ module _ {A : Type 0} where
         ]
         | inr d ↦ rw d (omega (arith, count-most f ys))
       ]
+
+  -- a test that one element more passes
+  pub count-one-more : (f f′ : A → Bool) (xs : List A) {c : A} → Distinct xs → List·Memᴰ c xs → f c ≡ false → f′ c ≡ true
+      → ((x : A) → List·Memᴰ x xs → x ≢ c → f x ≡ f′ x) → count f′ xs ≡ count f xs + 1
+  count-one-more f f′ [] d m e e′ h = absurd (List·Memᴰ·not-nil m)
+  count-one-more f f′ (x ∷ xs) {c} d m e e′ h = elim (List·Memᴰ·cases-cons m) [
+    | inl p ↦
+        let rest = ap length (filter-mem f f′ xs (λ y i. h y (List·Memᴰ·tail i) (λ q. d .0 (Memᴰ·cast (sym (q ∙ p)) i)))) in
+        rw (ap f (sym p) ∙ e, ap f′ (sym p) ∙ e′) (omega (arith, rest))
+    | inr i ↦
+        let rest = count-one-more f f′ xs (d .1) i e e′ (λ y j. h y (List·Memᴰ·tail j)) in
+        let same = h x (List·Memᴰ·head refl) (λ q. d .0 (Memᴰ·cast q i)) in
+        elim (test (f′ x)) [ inl t ↦ rw (same ∙ t, t) (omega (arith, rest)) | inr t ↦ rw (same ∙ t, t) rest ]
+  ]
 
   pub count-miss-two : (f : A → Bool) (xs : List A) {x y : A} → List·Memᴰ (x, y) (pairs xs) → f x ≡ false → f y ≡ false → count f xs + 2 ≤ length xs
   count-miss-two f [] m e d = absurd (List·Memᴰ·not-nil m)

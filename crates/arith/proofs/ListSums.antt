@@ -2,7 +2,7 @@
 use mathlib.Core.Bool.{Bool}
 use mathlib.Core.List.{_++_, [], List, List·Memᴰ, List·Memᴰ·cases-cons, List·Memᴰ·head, List·Memᴰ·not-nil, List·Memᴰ·tail, map, _∷_}
 use mathlib.Core.Logic.{inl, inr}
-use mathlib.Core.Path.{ap, refl, _≡_}
+use mathlib.Core.Path.{ap, refl, sym, _∙_, _≡_}
 use Prim.Native.Nat.{_*_, _+_, _<_, ℕ, _≤_}
 use native.Mathlib.Omega.{arith}
 use lib.ListN.{length}
@@ -46,3 +46,27 @@ sum-map f F (x ∷ xs) = ap (λ s. f (F x) + s) (sum-map f F xs)
 pub count-sum : {A : Type 0} (q : A → Bool) (xs : List A) → count q xs ≡ sum (map (λ x. bit (q x)) xs)
 count-sum q [] = refl
 count-sum q (x ∷ xs) = elim (test (q x)) [ inl e ↦ rw e (omega (arith, count-sum q xs)) | inr e ↦ rw e (omega (arith, count-sum q xs)) ]
+
+-- where each element gives b at most, and nothing if it fails a test, the sum is at most b for each that passes; and then only is it as much if each gives that
+module _ {A : Type 0} (f : A → ℕ) (b : ℕ) (q : A → Bool) where
+  step : (x : A) (xs : List A) → b * bit (q x) + b * count q xs ≡ b * count q (x ∷ xs)
+  step x xs = elim (test (q x)) [ inl e ↦ rw e (omega arith) | inr e ↦ rw e (omega arith) ]
+
+  pub sum-passed : (xs : List A) → ((x : A) → List·Memᴰ x xs → f x ≤ b * bit (q x)) → sum (map f xs) ≤ b * count q xs
+  sum-passed [] h = omega arith
+  sum-passed (x ∷ xs) h = omega (arith, step x xs, h x (List·Memᴰ·head refl), sum-passed xs (λ y m. h y (List·Memᴰ·tail m)))
+
+  pub sum-each : (xs : List A) → ((x : A) → List·Memᴰ x xs → f x ≡ b * bit (q x)) → sum (map f xs) ≡ b * count q xs
+  sum-each [] h = omega arith
+  sum-each (x ∷ xs) h = omega (arith, step x xs, h x (List·Memᴰ·head refl), sum-each xs (λ y m. h y (List·Memᴰ·tail m)))
+
+  pub sum-full : (xs : List A) → ((x : A) → List·Memᴰ x xs → f x ≤ b * bit (q x)) → sum (map f xs) ≡ b * count q xs
+      → (x : A) → List·Memᴰ x xs → f x ≡ b * bit (q x)
+  sum-full [] h e y m = absurd (List·Memᴰ·not-nil m)
+  sum-full (x ∷ xs) h e y m =
+      let here = h x (List·Memᴰ·head refl) in
+      let most = sum-passed xs (λ z i. h z (List·Memᴰ·tail i)) in
+      elim (List·Memᴰ·cases-cons m) [
+        | inl d ↦ ap f d ∙ omega (arith, step x xs, here, most) ∙ ap (λ z. b * bit (q z)) (sym d)
+        | inr i ↦ sum-full xs (λ z i. h z (List·Memᴰ·tail i)) (omega (arith, step x xs, here, most)) y i
+      ]

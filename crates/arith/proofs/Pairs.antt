@@ -8,9 +8,9 @@ use native.Mathlib.Nat.{ne-of-lt}
 use native.Mathlib.Omega.{arith}
 use lib.ListN.{length, length-append, length-map}
 use Rattle.arith.proofs.Filter.{count-miss-two}
-use Rattle.arith.proofs.Members.{mem-some}
-use Rattle.arith.proofs.Range.{count-range, length-range, mem-up, range-mem, Up}
-use Rattle.arith.specs.Lists.{pairs, range}
+use Rattle.arith.proofs.Members.{distinct-append, distinct-map, mem-some}
+use Rattle.arith.proofs.Range.{count-range, length-range, mem-up, range-mem, Up, up-distinct}
+use Rattle.arith.specs.Lists.{Distinct, pairs, range}
 use Rattle.arith.specs.Sums.{countTo}
 
 module _ {A : Type 0} where
@@ -50,6 +50,15 @@ mem-pairs k (x ∷ xs) {c} u m =
       | inr d ↦ let r : OrderedPair (suc x) xs c = mem-pairs (suc x) xs (u .1) d in
           record { first = List·Memᴰ·tail (r .first); second = List·Memᴰ·tail (r .second); less = r .less; two = omega (arith, r .two) }
     ]
+
+-- no pair of a list that goes up stands there twice
+pub pairs-distinct : (k : ℕ) (xs : List ℕ) → Up k xs → Distinct (pairs xs)
+pairs-distinct k [] u = tt
+pairs-distinct k (x ∷ xs) u =
+    distinct-append (map (λ y. (x, y)) xs) (pairs xs) (distinct-map (λ (y : ℕ). (x, y)) (λ a b e. ap (λ t. t .1) e) xs (up-distinct (suc x) xs (u .1)))
+    (pairs-distinct (suc x) xs (u .1)) (λ z i j.
+    let (a, m, e) = Memᴰ·of-map (λ (y : ℕ). (x, y)) xs i in
+    omega (arith, mem-up xs (u .1) (mem-pairs (suc x) xs (u .1) j .first), ap (λ t. t .0) e))
 
 suc-sub-one : (d : ℕ) → suc d - 1 ≡ d
 suc-sub-one d = omega arith

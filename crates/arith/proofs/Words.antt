@@ -1,14 +1,14 @@
 -- Digits as tests: what a count of ones counts, what a packed number has, and a number without its lowest digits, or its lowest one. Assumes nothing.
-use mathlib.Core.Bool.{_&&_, Bool, false, not, true}
+use mathlib.Core.Bool.{_&&_, Bool, false, not, true, _||_}
 use mathlib.Core.Logic.{inl, inr, _≢_, ⊎-elim}
 use mathlib.Core.Path.{ap, ap₂, fun-ext, refl, sym, _∙_, _≡_}
-use Prim.Native.Nat.{_%_, _*_, _+_, _-_, _/_, _<_, _^_, min, suc, zero, ℕ, _≤_}
+use Prim.Native.Nat.{_%_, _*_, _+_, _-_, _/_, _<_, _^_, max, min, suc, zero, ℕ, _≤_}
 use native.Mathlib.Decide.{ℕ-discrete}
 use native.Mathlib.Nat.{add-comm, add-mul-div-right, add-mul-mod-self-right, add-zero, div-eq-of-lt, div-mul-le-self, div-one, eq-or-lt-of-le, lt-of-le-of-lt, lt-of-lt-of-le, mod-eq-of-lt, mod-lt, mod-one, mul-add-mod-self-right, mul-assoc, one-mul, pow-suc, zero-add, zero-mul}
 use native.Mathlib.Numerals.{one-add}
 use native.Mathlib.Omega.{arith}
 use borrow.Author.Tests.{eq-eqb, eqb-false, eqb-true, ne-eqb}
-use lib.Bits.{and-le-l, and-self, and-shr, and-step, bitAnd}
+use lib.Bits.{and-le-l, and-self, and-shr, and-step, bitAnd, bitOr, or-shr, or-step}
 use lib.Count.{ones, ones-cat, trailingZeros}
 use lib.Dec.{eqb}
 use lib.Pow.{field, mod-mod-pow, mod-pow-add, pow-add, pow-mono, pow-pos, shl-shr, shr-shr}
@@ -24,25 +24,30 @@ below-two P a b zero h = a
 below-two P a b (suc zero) h = b
 below-two P a b (suc (suc n)) h = absurd (omega arith)
 
--- ---- the bits of an and
-and-low : (a b : ℕ) → bitAnd a b % 2 ≡ min (a % 2) (b % 2)
-and-low a b =
-    ap (λ (x : ℕ). x % 2) (and-step a b) ∙ mul-add-mod-self-right (bitAnd (a / 2) (b / 2)) 2 (min (a % 2) (b % 2))
-    ∙ mod-eq-of-lt (omega arith)
+-- ---- the bits of an and, and of an or: those of an operation that goes digit by digit
+module _ (op low : ℕ → ℕ → ℕ) (logic : Bool → Bool → Bool) (step : (a b : ℕ) → op a b ≡ op (a / 2) (b / 2) * 2 + low (a % 2) (b % 2))
+    (shr : (a b k : ℕ) → op a b / 2 ^ k ≡ op (a / 2 ^ k) (b / 2 ^ k)) (small : (x y : ℕ) → x < 2 → y < 2 → low x y < 2)
+    (is : (x y : ℕ) → x < 2 → y < 2 → eqb (low x y) 1 ≡ logic (eqb x 1) (eqb y 1)) where
+  op-low : (a b : ℕ) → op a b % 2 ≡ low (a % 2) (b % 2)
+  op-low a b =
+      ap (λ (x : ℕ). x % 2) (step a b) ∙ mul-add-mod-self-right (op (a / 2) (b / 2)) 2 (low (a % 2) (b % 2))
+      ∙ mod-eq-of-lt (small (a % 2) (b % 2) (omega arith) (omega arith))
 
-both : (x y : ℕ) → x < 2 → y < 2 → eqb (min x y) 1 ≡ eqb x 1 && eqb y 1
-both x y hx hy =
-    below-two (λ x. eqb (min x y) 1 ≡ eqb x 1 && eqb y 1)
-    (below-two (λ y. eqb (min 0 y) 1 ≡ eqb 0 1 && eqb y 1) refl refl y hy)
-    (below-two (λ y. eqb (min 1 y) 1 ≡ eqb 1 1 && eqb y 1) refl refl y hy)
-    x
-    hx
+  bit-op : (a b k : ℕ) → bitOf (op a b) k ≡ logic (bitOf a k) (bitOf b k)
+  unfolding bitOf digit
+  bit-op a b k =
+      ap (λ (x : ℕ). eqb x 1) (ap (λ (x : ℕ). x % 2) (shr a b k) ∙ op-low (a / 2 ^ k) (b / 2 ^ k))
+      ∙ is (a / 2 ^ k % 2) (b / 2 ^ k % 2) (omega arith) (omega arith)
+
+-- what holds of both digits of two
+of-two : (P : ℕ → ℕ → Type 0) → P 0 0 → P 0 1 → P 1 0 → P 1 1 → (x y : ℕ) → x < 2 → y < 2 → P x y
+of-two P a b c d x y hx hy = below-two (λ x. P x y) (below-two (P 0) a b y hy) (below-two (P 1) c d y hy) x hx
 
 pub bit-and : (a b k : ℕ) → bitOf (bitAnd a b) k ≡ bitOf a k && bitOf b k
-unfolding bitOf digit
-bit-and a b k =
-    ap (λ (x : ℕ). eqb x 1) (ap (λ (x : ℕ). x % 2) (and-shr a b k) ∙ and-low (a / 2 ^ k) (b / 2 ^ k))
-    ∙ both (a / 2 ^ k % 2) (b / 2 ^ k % 2) (omega arith) (omega arith)
+bit-and = bit-op bitAnd min _&&_ and-step and-shr (λ x y hx hy. omega arith) (of-two (λ x y. eqb (min x y) 1 ≡ eqb x 1 && eqb y 1) refl refl refl refl)
+
+pub bit-or : (a b k : ℕ) → bitOf (bitOr a b) k ≡ bitOf a k || bitOf b k
+bit-or = bit-op bitOr max _||_ or-step or-shr (λ x y hx hy. omega arith) (of-two (λ x y. eqb (max x y) 1 ≡ eqb x 1 || eqb y 1) refl refl refl refl)
 
 -- ---- the count of the ones among the n lowest digits
 one : (d : ℕ) → d < 2 → ones d ≡ bit (eqb d 1)

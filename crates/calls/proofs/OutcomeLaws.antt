@@ -1,12 +1,9 @@
 -- How a call that writes the state ends. Assumes nothing.
 use mathlib.Core.List.{_++_, List}
-use mathlib.Core.Path.{sym, _∙_, _≡_}
+use mathlib.Core.Path.{ap, sym, _∙_, _≡_}
 use Prim.Native.Nat.{ℕ}
 use borrow.Author.Tests.{ne-eqb}
 use lib.ListN.{length, replicate}
-use Rattle.arith.specs.Sums.{tabulate}
-use Rattle.ego.specs.Bound.{bound}
-use Rattle.packed.specs.Edges.{edge}
 use Rattle.state.proofs.RefusalLaws.{append-refused, Fitted, fitted-append}
 use Rattle.calls.specs.Clear.{cleared}
 use Rattle.state.specs.Marks.{allExact, allStale, markBytes}
@@ -14,6 +11,7 @@ use Rattle.state.specs.Outcome.{left, lengths, outcome, stateLengths}
 use Rattle.state.specs.State.{state, size, State}
 use Rattle.state.specs.Refusal.{Condition, refusal}
 use Rattle.state.specs.Sizes.{edgeBytes}
+use Rattle.state.specs.inside.Bounds.{boundsOf}
 use Rattle.calls.specs.Snapshot.{loaded}
 
 pub refused-is : (cs : List Condition) (s after : State) {r : ℕ} → r ≡ refusal cs → (r ≡ 0 → ⊥) → left r s ≡ outcome cs s after
@@ -50,7 +48,6 @@ pub cleared-is : (n : ℕ) {edges figures marks : List ℕ} → edges ≡ replic
 unfolding cleared allExact
 cleared-is n e f m = state-is e f m
 
-pub loaded-is : (n : ℕ) {edges snapshotEdges figures marks : List ℕ} → edges ≡ snapshotEdges → figures ≡ tabulate (bound (edge snapshotEdges) n) n
-    → marks ≡ allStale n → state edges figures marks ≡ loaded n snapshotEdges
+pub loaded-is : (n : ℕ) {edges snapshotEdges figures marks : List ℕ} → edges ≡ snapshotEdges → figures ≡ boundsOf edges n → marks ≡ allStale n → state edges figures marks ≡ loaded n snapshotEdges
 unfolding loaded
-loaded-is n e f m = state-is e f m
+loaded-is n e f m = state-is e (f ∙ ap (λ es. boundsOf es n) e) m

@@ -22,10 +22,12 @@ use Rattle.packed.specs.inside.Bytes.{Bytes}
 use Rattle.packed.specs.Edges.{edge}
 use Rattle.packed.specs.Pairs.{maxNodes, pairCount}
 use Rattle.calls.proofs.AcceptLaws.{passes}
+use Rattle.state.proofs.LimitLaws.{few-each}
 use Rattle.state.proofs.RefusalLaws.{append-refused, Fitted, fitted-append, passed-after, passed-before, passed-length, refusal-none, refused-after, refused-before, refused-length}
 use Rattle.state.specs.Outcome.{lengths, stateLengths}
 use Rattle.state.specs.Refusal.{badSnapshot, Condition, crowdedAfter, everyone, otherCount, refusal, snapshotEdges, snapshotNodes, spareSet, tooMany}
 use Rattle.state.specs.Sizes.{edgeBytes, snapshotBytes}
+use Rattle.state.specs.inside.Bounds.{Boundable}
 use Rattle.state.specs.inside.MaxSizes.{maxEdgeBytes, maxSnapshot}
 use Rattle.calls.specs.Snapshot.{formConditions, loadConditions, snapshotByte, snapshotOf, writeCall, writeConditions, written}
 use Rattle.state.specs.State.{graph, size, State}
@@ -125,6 +127,14 @@ part-is snapshot = ap (λ m. take m (drop 1 snapshot)) (sym (length-drop 1 snaps
 
 pub part-length : (snapshot : List ℕ) {m : ℕ} → length snapshot ≡ 1 + m → length (take (length snapshot - 1) (drop 1 snapshot)) ≡ m
 part-length snapshot e = ap length (part-is snapshot) ∙ length-drop 1 snapshot ∙ omega arith
+
+-- its edges, once they are copied, have bounds
+pub copied-bounds : {n : ℕ} {snapshot edges : List ℕ} → n ≤ maxNodes → Fits n snapshot → edges ≡ snapshotEdges snapshot
+    → tooMany (edge (snapshotEdges snapshot)) n everyone ≡ false → Boundable edges n
+copied-bounds {n} {snapshot} few f e over = rw e (record {
+  room = record { few = few; bits = omega (arith, length-drop 1 snapshot, f .long) };
+  few = few-each (edge (snapshotEdges snapshot)) n over;
+})
 
 -- ---- the bytes that are written
 

@@ -1,8 +1,6 @@
 // The calls that load a snapshot and write one.
-use packed::degrees::degrees_of;
 use packed::edges::row_start;
 use packed::runs::run_of;
-use state::crowded::any_among;
 use state::crowded::any_over;
 use state::figures::set_bounds;
 use state::marks::set_stale;
@@ -84,12 +82,11 @@ pub fn load(edges: &mut [u8], figures: &mut [u64], marks: &mut [u8], snapshot: &
     if form != 0 {
         return form;
     }
-    let degrees = degrees_of(&snapshot[1..], n);
-    if any_among(&degrees[..], n) {
+    if any_over(&snapshot[1..], n) {
         return CROWDED_AFTER;
     }
     copy_edges(edges, snapshot);
-    set_bounds(&degrees[..], figures);
+    set_bounds(edges, figures);
     set_stale(marks, n);
     0
 }

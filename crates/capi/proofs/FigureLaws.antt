@@ -4,20 +4,19 @@ use mathlib.Core.Logic.{_≢_, ⊎-elim}
 use mathlib.Core.Path.{ap, ap₂, refl, sym, _∙_, _≡_}
 use Prim.Native.Nat.{_%_, _*_, _+_, _-_, _/_, _<_, _^_, suc, zero, ℕ, _≤_}
 use native.Mathlib.Decide.{ℕ-discrete}
-use native.Mathlib.Nat.{add-comm, add-mul-div-right, add-mul-mod-self-right, div-eq-of-lt, eq-or-lt-of-le, le-antisymm, mod-eq-of-lt, mod-one, mul-comm, mul-le-mul-right, mul-suc, one-le-pow, pow-suc, zero-add}
+use native.Mathlib.Nat.{add-comm, add-mul-div-right, add-mul-mod-self-right, div-eq-of-lt, eq-or-lt-of-le, le-antisymm, lt-of-lt-of-le, mod-eq-of-lt, mod-one, mul-comm, mul-le-mul-right, mul-suc, one-le-pow, pow-le-pow-right, pow-suc, zero-add}
 use native.Mathlib.Numerals.{add-one}
 use native.Mathlib.Omega.{arith}
 use lib.Arith.{mod-mul}
+use lib.Dec.{ltb}
 use lib.ListN.{getD, getD-replicate, length, length-replicate, length-set, replicate, set}
-use lib.Pow.{field, mod-mod-pow, pow-add}
+use lib.Pow.{field, mod-mod-pow, pow-add, shl-exact}
 use lib.Seq.{ext-getD, getD-set-other, getD-set-same}
 use Rattle.arith.proofs.Sums.{getD-tabulate, length-tabulate, sumTo-ext, tabulate-is}
 use Rattle.arith.specs.Sums.{sumTo}
 use Rattle.packed.specs.inside.Bytes.{Bytes}
-use Rattle.packed.specs.Pairs.{pairCount}
-use Rattle.ego.specs.Limits.{unit}
-use Rattle.edits.proofs.RenewalLaws.{bound-each-more, bound-each-none, length-bound-each}
-use Rattle.edits.specs.inside.Renewal.{boundEach}
+use Rattle.edits.proofs.RenewalLaws.{length-renew-each, renew-each-more, renew-each-none, renew-each-small}
+use Rattle.edits.specs.inside.Renewal.{figureBy, renewEach}
 use Rattle.capi.specs.Figures.{byteAt, byteOf, decoded, encoded, figureAt}
 use Rattle.capi.specs.inside.Writing.{figureCount, withBytes}
 
@@ -30,6 +29,9 @@ pow-byte (suc i) = ap (λ k. 2 ^ k) (mul-suc 8 i) ∙ pow-add 2 (8 * i) 8 ∙ ap
 pub byte-is : (x i : ℕ) → x / 2 ^ (8 * i) % 256 ≡ byteOf x i
 unfolding byteOf
 byte-is x i = ap (λ m. x / m % 256) (pow-byte i)
+
+pub weight-is : {b i : ℕ} → b < 256 → i < 8 → b * 2 ^ (8 * i) % 2 ^ 64 ≡ b * 256 ^ i
+weight-is {b} {i} h k = shl-exact 8 (8 * i) 64 h (omega arith) ∙ ap (λ m. b * m) (pow-byte i)
 
 -- a number of n bytes is what they come to
 bytes-sum : (x n : ℕ) → sumTo (λ i. byteOf x i * 256 ^ i) n ≡ x % 256 ^ n
@@ -80,15 +82,20 @@ encoded-at : (figures : List ℕ) (k : ℕ) → k < 8 * length figures → getD 
 unfolding encoded byteAt
 encoded-at figures k h = getD-tabulate (byteAt figures) (8 * length figures) k 0 h
 
--- the bytes of figures are read as the figures, where each is a number of 64 bits
-pub figures-back : (figures : List ℕ) → ((p : ℕ) → p < length figures → getD figures p 0 < 2 ^ 64) → decoded (length figures) (encoded figures) ≡ figures
-unfolding decoded figureAt
-figures-back figures small = sym (tabulate-is (figureAt (encoded figures)) 0 figures (λ p h. sym
-    (sumTo-ext _ _ 8 (λ i l.
+-- the figure of a node in the bytes of figures, where it is a number of 64 bits
+pub figure-back : (figures : List ℕ) (p : ℕ) → p < length figures → getD figures p 0 < 2 ^ 64 → figureAt (encoded figures) p ≡ getD figures p 0
+unfolding figureAt
+figure-back figures p h small =
+    sumTo-ext _ _ 8 (λ i l.
     let d : (8 * p + i) / 8 ≡ p = omega arith in
     let m : (8 * p + i) % 8 ≡ i = omega arith in
     ap (λ b. b * 256 ^ i) (encoded-at figures (8 * p + i) (omega arith) ∙ ap₂ (λ q j. byteOf (getD figures q 0) j) d m))
-    ∙ bytes-sum (getD figures p 0) 8 ∙ mod-eq-of-lt (small p h))))
+    ∙ bytes-sum (getD figures p 0) 8 ∙ mod-eq-of-lt small
+
+-- the bytes of figures are read as the figures, where each is a number of 64 bits
+pub figures-back : (figures : List ℕ) → ((p : ℕ) → p < length figures → getD figures p 0 < 2 ^ 64) → decoded (length figures) (encoded figures) ≡ figures
+unfolding decoded
+figures-back figures small = sym (tabulate-is (figureAt (encoded figures)) 0 figures (λ p h. sym (figure-back figures p h (small p h))))
 
 -- and the figures of bytes are written as the bytes
 pub bytes-back : (n : ℕ) (bytes : List ℕ) → Bytes bytes → length bytes ≡ 8 * n → encoded (decoded n bytes) ≡ bytes
@@ -102,6 +109,36 @@ bytes-back n bytes small h =
     ∙ ap (λ x. byteOf x (k % 8)) (getD-tabulate (figureAt bytes) n (k / 8) 0 (omega arith))
     ∙ sum-byte (λ i. getD bytes (8 * (k / 8) + i) 0) (λ i. small (8 * (k / 8) + i)) 8 (k % 8) (omega arith)
     ∙ ap (λ m. getD bytes m 0) place)
+
+-- a figure of bytes is a number of 64 bits
+decoded-fits : (n : ℕ) (bytes : List ℕ) → Bytes bytes → (p : ℕ) → p < n → getD (decoded n bytes) p 0 < 2 ^ 64
+unfolding decoded figureAt
+decoded-fits n bytes small p h = rw (getD-tabulate (figureAt bytes) n p 0 h) (sum-fits (λ i. getD bytes (8 * p + i) 0) (λ i. small (8 * p + i)) 8)
+
+-- ---- the loop that reads one
+
+-- what the first i bytes of the figure of node p come to
+unfoldable pub figureTo : List ℕ → ℕ → ℕ → ℕ
+figureTo bytes p i = sumTo (λ j. getD bytes (8 * p + j) 0 * 256 ^ j) i
+
+pub figure-start : (bytes : List ℕ) (p : ℕ) → 0 ≡ figureTo bytes p 0
+unfolding figureTo sumTo
+figure-start bytes p = refl
+
+module _ (bytes : List ℕ) (p i : ℕ) {x v : ℕ} (e : x ≡ figureTo bytes p i) (w : v ≡ getD bytes (8 * p + i) 0 * 256 ^ i) where
+  pub figure-next : x + v ≡ figureTo bytes p (i + 1)
+  unfolding figureTo sumTo
+  figure-next = rw add-one (ap₂ (λ a b. a + b) e w)
+
+  pub figure-fits : ((k : ℕ) → getD bytes k 0 < 256) → i < 8 → x + v < 2 ^ 64
+  unfolding figureTo
+  figure-fits h k =
+      rw figure-next
+      (lt-of-lt-of-le (sum-fits (λ j. getD bytes (8 * p + j) 0) (λ j. h (8 * p + j)) (i + 1)) (pow-le-pow-right (omega arith) {j = 8} (omega arith)))
+
+pub figure-end : (bytes : List ℕ) (p i : ℕ) {x : ℕ} → x ≡ figureTo bytes p i → i ≡ 8 → x ≡ figureAt bytes p
+unfolding figureTo figureAt
+figure-end bytes p i e h = e ∙ ap (figureTo bytes p) h
 
 -- ---- the loop that writes one
 
@@ -165,31 +202,42 @@ figures-zero n =
 
 -- ---- the loop that writes a renewal
 
-module _ (l nodes degrees : List ℕ) where
-  -- the figures of the first i nodes are written
+module _ (l nodes bounds : List ℕ) (taken : ℕ) where
+  -- the figures after the first i nodes, and their bytes
+  abbrev renewing : ℕ → List ℕ
+  renewing i = renewEach nodes bounds taken (decoded (figureCount l) l) i
+
   unfoldable pub renewedTo : ℕ → List ℕ
-  renewedTo i = encoded (boundEach nodes degrees (decoded (figureCount l) l) i)
+  renewedTo i = encoded (renewing i)
 
   pub renew-none : Bytes l → length l ≡ 8 * figureCount l → l ≡ renewedTo 0
   unfolding renewedTo
-  renew-none b h = sym (ap encoded (bound-each-none nodes degrees (decoded (figureCount l) l)) ∙ bytes-back (figureCount l) l b h)
+  renew-none b h = sym (ap encoded (renew-each-none nodes bounds taken (decoded (figureCount l) l)) ∙ bytes-back (figureCount l) l b h)
 
-  length-renewing : (i : ℕ) → length (boundEach nodes degrees (decoded (figureCount l) l) i) ≡ figureCount l
-  length-renewing i = length-bound-each nodes degrees (decoded (figureCount l) l) i ∙ length-decoded (figureCount l) l
+  length-renewing : (i : ℕ) → length (renewing i) ≡ figureCount l
+  length-renewing i = length-renew-each nodes bounds taken (decoded (figureCount l) l) i ∙ length-decoded (figureCount l) l
 
   pub length-renewed : (i : ℕ) {bytes : List ℕ} → bytes ≡ renewedTo i → length bytes ≡ 8 * figureCount l
   unfolding renewedTo
-  length-renewed i e = ap length e ∙ length-encoded (boundEach nodes degrees (decoded (figureCount l) l) i) ∙ ap (λ m. 8 * m) (length-renewing i)
+  length-renewed i e = ap length e ∙ length-encoded (renewing i) ∙ ap (λ m. 8 * m) (length-renewing i)
 
-  pub renew-more : (i : ℕ) {bytes next : List ℕ} {x : ℕ} → bytes ≡ renewedTo i → getD nodes i 0 < figureCount l → x ≡ unit * pairCount (getD degrees i 0)
-      → next ≡ withBytes bytes (getD nodes i 0) x 8 → next ≡ renewedTo (i + 1)
-  unfolding renewedTo
-  renew-more i {x = x} e h q w =
-      let old = boundEach nodes degrees (decoded (figureCount l) l) i in
-      w ∙ ap (λ b. withBytes b (getD nodes i 0) x 8) e ∙ figure-written old (getD nodes i 0) x (omega (arith, length-renewing i))
-      ∙ ap encoded (bound-each-more nodes degrees (decoded (figureCount l) l) i refl q)
+  module _ (b : Bytes l) (count : ℕ) (fits : (i : ℕ) → i < count → getD bounds i 0 < 2 ^ 64) where
+    renewing-fits : (i : ℕ) → i ≤ count → (p : ℕ) → p < figureCount l → getD (renewing i) p 0 < 2 ^ 64
+    renewing-fits i h p k =
+        renew-each-small nodes bounds taken (decoded (figureCount l) l) (2 ^ 64) i (λ j m. fits j (omega arith)) p
+        (omega (arith, length-decoded (figureCount l) l)) (decoded-fits (figureCount l) l b p k)
 
-  pub renew-end : {i count : ℕ} {bytes : List ℕ} → i ≤ count → count ≤ i → bytes ≡ renewedTo i
-      → bytes ≡ encoded (boundEach nodes degrees (decoded (figureCount l) l) count)
+    pub renew-more : (i : ℕ) {bytes next : List ℕ} {figure x : ℕ} → i < count → bytes ≡ renewedTo i → getD nodes i 0 < figureCount l
+        → figure ≡ figureAt bytes (getD nodes i 0) → x ≡ figureBy (ltb i taken) figure (getD bounds i 0)
+        → next ≡ withBytes bytes (getD nodes i 0) x 8 → next ≡ renewedTo (i + 1)
+    unfolding renewedTo
+    renew-more i {x = x} c e h f q w =
+        let p = getD nodes i 0 in
+        let long : p < length (renewing i) = omega (arith, length-renewing i) in
+        let known = f ∙ ap (λ l. figureAt l p) e ∙ figure-back (renewing i) p long (renewing-fits i (omega arith) p h) in
+        w ∙ ap (λ b. withBytes b p x 8) e ∙ figure-written (renewing i) p x long
+        ∙ ap encoded (renew-each-more nodes bounds taken (decoded (figureCount l) l) i refl (q ∙ ap (λ y. figureBy (ltb i taken) y (getD bounds i 0)) known))
+
+  pub renew-end : {i count : ℕ} {bytes : List ℕ} → i ≤ count → count ≤ i → bytes ≡ renewedTo i → bytes ≡ encoded (renewing count)
   unfolding renewedTo
   renew-end h k e = e ∙ ap renewedTo (le-antisymm h k)

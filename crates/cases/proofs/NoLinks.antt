@@ -9,7 +9,7 @@ use Rattle.calls.proofs.ScoreLaws.{score-accepted}
 use Rattle.calls.specs.Clear.{clearCall, cleared}
 use Rattle.calls.specs.Score.{scoreCall}
 use Rattle.edits.proofs.HonestLaws.{cleared-graph}
-use Rattle.ego.proofs.Extremes.{unlinked-degree, unlinked-score}
+use Rattle.ego.proofs.Extremes.{edgeless-degree, edgeless-score}
 use Rattle.ego.specs.Score.{score}
 use Rattle.state.proofs.RefusalLaws.{Fitted, fitted-by, Sized}
 use Rattle.state.specs.Outcome.{lengths}
@@ -40,12 +40,12 @@ module _ (s : State) (z : clearCall s .refusal ≡ 0) where
 
   -- AFTER A CLEAR every post's score is 0.
   pub no-links : (p : ℕ) → score (graph (clearCall s .after)) (size s) p ≡ 0
-  no-links p = ap (λ t. score (graph t) (size s) p) after-is ∙ unlinked-score (graph (cleared (size s))) (size s) p (none p)
+  no-links p = ap (λ t. score (graph t) (size s) p) after-is ∙ edgeless-score (graph (cleared (size s))) (size s) p (none p)
 
   -- AND THE SCORE CALL answers it for each post of the board.
   pub no-links-call : (p : ℕ) → p < size s → scoreCall (clearCall s .after .edges) (size s) p ≡ record { refusal = 0; score = 0 }
   no-links-call p h =
       ap (λ t. scoreCall (t .edges) (size s) p) after-is
       ∙ sym (score-accepted (cleared (size s) .edges) (size s) p sized h
-      (omega (arith, unlinked-degree (graph (cleared (size s))) (size s) p (none p)))
-      (sym (unlinked-score (graph (cleared (size s))) (size s) p (none p))))
+      (omega (arith, edgeless-degree (graph (cleared (size s))) (size s) p (none p)))
+      (sym (edgeless-score (graph (cleared (size s))) (size s) p (none p))))

@@ -1,4 +1,4 @@
--- The two tables hold: tests that the checker computes, and laws that turn them into the rule at each row. Assumes nothing.
+-- The two tables hold, and the count of 01's listing: tests that the checker computes, and laws that turn them into the rule at each row. Assumes nothing.
 use mathlib.Core.Bool.{true}
 use mathlib.Core.List.{List·Memᴰ}
 use mathlib.Core.Path.{refl, _≡_}
@@ -6,8 +6,8 @@ use Rattle.arith.specs.Digits.{bitOf, digit, withDigit}
 use Rattle.arith.specs.Rank.{before}
 use Rattle.arith.specs.Sums.{anyTo, sumTo, tabulate}
 use Rattle.cases.proofs.Reflect.{all-at, allOf}
-use Rattle.cases.specs.Cases.{Case, Meets, runCalls, table}
-use Rattle.ego.specs.Bound.{bound}
+use Rattle.cases.specs.Cases.{Case, listingWorks, Meets, runCalls, table}
+use Rattle.ego.specs.Bound.{bound, unlinked}
 use Rattle.ego.specs.Graph.{degree, distance, ego, inner, neighbours, shortest, walks}
 use Rattle.ego.specs.Score.{score, share}
 use Rattle.history.specs.History.{effect}
@@ -16,7 +16,7 @@ use Rattle.packed.specs.Bits.{bitAt, bytesOf, withBit}
 use Rattle.packed.specs.Edges.{edge, withEdge}
 use Rattle.packed.specs.Pairs.{pairCount, pairIndex}
 use Rattle.calls.specs.Clear.{clearCall, cleared}
-use Rattle.edits.specs.Edit.{addCall, added, edited, removeCall, removed, renewed}
+use Rattle.edits.specs.Edit.{addCall, added, edited, newFigure, removeCall, removed, renewed}
 use Rattle.state.specs.Marks.{allExact, allStale, stale, staleTo, withMark}
 use Rattle.state.specs.Outcome.{lengths, outcome}
 use Rattle.state.specs.Refusal.{bufferLength, crowdedAfter, crowdedBefore, edgeAbsent, edgePresent, ends, listLength, nodeCount, nodeNumber, refusal, sameNodes, scratchLength, tooMany, touched, badSnapshot, otherCount, spareSet}
@@ -32,18 +32,22 @@ use Rattle.topk.specs.Ranking.{ranking, worksOut}
 use Rattle.cases.proofs.Table.{met, test-of}
 use Rattle.cases.proofs.Wrong.{excluded, one-fails, sentences, verdict}
 
-computed : (allOf test-of table ≡ true) × (allOf one-fails wrongs ≡ true)
+computed : (allOf test-of table ≡ true) × (allOf one-fails wrongs ≡ true) × (listingWorks ≡ 2)
 unfolding test-of one-fails verdict sentences runCalls effect model modelRefusal conditions ownConditions wouldHold below anyTo tabulate sumTo digit bitOf
-    withDigit before bitAt withBit bytesOf pairCount pairIndex edge withEdge withPair degree neighbours bound ego walks distance shortest inner share
+    withDigit before bitAt withBit bytesOf pairCount pairIndex edge withEdge withPair degree neighbours unlinked bound ego walks distance shortest inner share
     score stale withMark staleTo allExact allStale refusal nodeCount bufferLength scratchLength nodeNumber sameNodes edgePresent edgeAbsent listLength
-    badSnapshot otherCount spareSet tooMany ends touched crowdedBefore crowdedAfter outcome lengths cleared clearCall loaded loadCall renewed edited
+    badSnapshot otherCount spareSet tooMany ends touched crowdedBefore crowdedAfter outcome lengths cleared clearCall loaded loadCall newFigure renewed edited
     added removed addCall removeCall ranksBefore insert keep stops better bestBelow worth took stepAt step steps allSteps acceptedList listCall entriesOf
     entriesCall ranking worksOut takes overRow overPairs reconciled reconcileCall merged
-computed = (refl, refl)
+computed = (refl, refl, refl)
 
 -- EVERY CASE OF THE TABLE comes out as it must.
 pub cases-met : (c : Case) → List·Memᴰ c table → Meets c
 cases-met c m = met c (all-at test-of table (computed .0) m)
+
+-- 01'S LISTING works out two posts.
+pub listing-works-two : listingWorks ≡ 2
+listing-works-two = computed .2
 
 -- EVERY WRONG OUTCOME OF THE TABLE is excluded, by its sentence alone.
 pub wrongs-excluded : {w : Wrong} → List·Memᴰ w wrongs → Excluded w

@@ -75,3 +75,7 @@ table =
     -- Original 0–1; mine also has 0–2; theirs has none: only 0–2 stays.
     case 3 (add 0 1 ∷ add 0 2 ∷ reconcile (0x00 ∷ []) (0x80 ∷ []) ∷ []) (0x40 ∷ []) (0 ∷ 0 ∷ 0 ∷ []) (0 ∷ 0 ∷ []) ∷
     []
+
+-- How many posts 01's listing works out: a board of four is cleared and gets the star's links, then two are listed.
+abbrev pub listingWorks : ℕ
+listingWorks = listCall (runCalls (unclean 4) (clear ∷ add 0 1 ∷ add 0 2 ∷ add 0 3 ∷ [])) (9 ∷ 9 ∷ 9 ∷ 9 ∷ []) (replicate 4 9) .recomputed

@@ -21,7 +21,7 @@ use Rattle.packed.proofs.PairLaws.{pair-within, room-within}
 use Rattle.packed.specs.Edges.{edge, withEdge}
 use Rattle.packed.specs.inside.Room.{Room}
 use Rattle.state.proofs.MarkLaws.{length-staleTo, staleTo-at}
-use Rattle.edits.specs.Edit.{added, edited, removed, renewed}
+use Rattle.edits.specs.Edit.{added, edited, newFigure, removed, renewed}
 use Rattle.edits.specs.inside.Change.{changed}
 use Rattle.state.specs.Refusal.{ends, touched}
 use Rattle.state.specs.State.{figure, graph, isStale, size, State}
@@ -107,9 +107,10 @@ module _ (s : State) (a b : ℕ) (on : Bool) (which : ℕ → Bool) where
   edited-graph = refl
 
   pub edited-figure : (p : ℕ) → p < size s
-      → figure (edited s a b on which) p ≡ cond (which p) (bound (edge (withEdge (s .edges) a b on)) (size s) p) (figure s p)
+      → figure (edited s a b on which) p ≡ newFigure (which p) (touched (graph s) a b p) (figure s p) (bound (edge (withEdge (s .edges) a b on)) (size s) p)
   unfolding edited renewed
-  edited-figure p h = getD-tabulate _ (size s) p 0 h
+  edited-figure p h =
+      getD-tabulate (λ p. newFigure (which p) (touched (graph s) a b p) (figure s p) (bound (edge (withEdge (s .edges) a b on)) (size s) p)) (size s) p 0 h
 
   pub edited-stale : size s ≤ 8 * length (s .marks) → (p : ℕ) → p < size s
       → isStale (edited s a b on which) p ≡ (touched (graph s) a b p || isStale s p)
@@ -119,4 +120,5 @@ module _ (s : State) (a b : ℕ) (on : Bool) (which : ℕ → Bool) where
   -- a node that is neither which nor touched is as it was
   pub edited-kept : size s ≤ 8 * length (s .marks) → (p : ℕ) → p < size s → which p ≡ false → touched (graph s) a b p ≡ false
       → (isStale (edited s a b on which) p ≡ isStale s p) × (figure (edited s a b on which) p ≡ figure s p)
-  edited-kept room p h e d = (edited-stale room p h ∙ rw d, edited-figure p h ∙ rw e)
+  unfolding newFigure
+  edited-kept room p h e d = (edited-stale room p h ∙ rw d, edited-figure p h ∙ rw (e, d))

@@ -1,20 +1,20 @@
 -- Each call that writes the state leaves honest figures: a settled figure is the score and no figure is below it. Assumes nothing.
 use mathlib.Core.Bool.{Bool, false, true, true≢false}
 use mathlib.Core.List.{List}
-use mathlib.Core.Logic.{inl, inr, _≢_}
-use mathlib.Core.Path.{sym, _∙_, _≡_}
+use mathlib.Core.Logic.{_≢_}
+use mathlib.Core.Path.{refl, sym, _∙_, _≡_}
 use Prim.Native.Nat.{_*_, _<_, zero-le, ℕ, _≤_}
 use native.Mathlib.Decide.{ℕ-discrete}
 use native.Mathlib.Nat.{le-refl, le-trans}
 use native.Mathlib.Omega.{arith}
 use lib.ListN.{getD-replicate, length, length-replicate, replicate}
 use Rattle.arith.proofs.Sums.{getD-tabulate, length-tabulate}
-use Rattle.arith.proofs.Tests.{or-false-both, test}
+use Rattle.arith.proofs.Tests.{or-false-both}
 use Rattle.arith.specs.Sums.{tabulate}
 use Rattle.ego.proofs.Agreement.{Agree, score-agree}
 use Rattle.ego.proofs.Bounds.{score-bound}
 use Rattle.ego.proofs.Changes.{common-at-most, common-lower, gains-degree, others-same}
-use Rattle.ego.proofs.Extremes.{unlinked-score}
+use Rattle.ego.proofs.Extremes.{edgeless-score}
 use Rattle.ego.proofs.FoundLaws.{simple-edges}
 use Rattle.ego.specs.Bound.{bound}
 use Rattle.ego.specs.inside.Gains.{Gains}
@@ -29,7 +29,7 @@ use Rattle.packed.specs.inside.Room.{Room}
 use Rattle.edits.proofs.EditLaws.{add-gains, edited-figure, edited-graph, edited-kept, edited-size, edited-stale, not-end, remove-gains, untouched-common, untouched-end}
 use Rattle.state.proofs.MarkLaws.{all-stale}
 use Rattle.calls.specs.Clear.{cleared}
-use Rattle.edits.specs.Edit.{added, edited, removed}
+use Rattle.edits.specs.Edit.{added, edited, newFigure, removed}
 use Rattle.state.specs.inside.Honest.{Honest}
 use Rattle.state.specs.Refusal.{ends, touched}
 use Rattle.state.specs.Sizes.{edgeBytes}
@@ -58,7 +58,7 @@ unfolding cleared
 cleared-figure n p l = getD-replicate n p 0 0 (omega (arith, length-replicate {A = ℕ} n 0))
 
 cleared-score : (n p : ℕ) → score (graph (cleared n)) n p ≡ 0
-cleared-score n p = unlinked-score (graph (cleared n)) n p (λ q h. cleared-graph n p q)
+cleared-score n p = edgeless-score (graph (cleared n)) n p (λ q h. cleared-graph n p q)
 
 pub cleared-honest : (n : ℕ) → Honest (score (graph (cleared n)) n) (cleared n .figures) (cleared n .marks)
 cleared-honest n = record {
@@ -79,6 +79,13 @@ loaded-honest n edges = record {
 
 -- ---- edits
 
+-- what is below the new ceiling, and below the figure where that is not given up, is below the new figure
+new-above : (takes lowers : Bool) {x figure ceiling : ℕ} → x ≤ ceiling → (takes ≡ false → x ≤ figure) → x ≤ newFigure takes lowers figure ceiling
+unfolding newFigure
+new-above true lowers h k = h
+new-above false true h k = omega (arith, h, k refl)
+new-above false false h k = k refl
+
 module _ (s : State) (a b : ℕ) (on : Bool) (renewed : ℕ → Bool) (room : size s ≤ 8 * length (s .marks))
     (only : (p : ℕ) → touched (graph s) a b p ≡ false → renewed p ≡ false)
     (same : (p : ℕ) → touched (graph s) a b p ≡ false → score (graph s) (size s) p ≡ score (graph (edited s a b on renewed)) (size s) p)
@@ -98,10 +105,9 @@ module _ (s : State) (a b : ℕ) (on : Bool) (renewed : ℕ → Bool) (room : si
           edited-kept s a b on renewed room p l (only p (r .0)) (r .0) .1 ∙ h .settled p l (r .1) ∙ same p (r .0)
 
       above : (p : ℕ) → p < size s → score (graph (edited s a b on renewed)) (size s) p ≤ figure (edited s a b on renewed) p
-      above p l = elim (test (renewed p)) [
-        | inl e ↦ rw (edited-figure s a b on renewed p l, e) (renewed-above p)
-        | inr e ↦ rw (edited-figure s a b on renewed p l, e) (le-trans (down p e) (h .above p l))
-      ]
+      above p l =
+          rw (edited-figure s a b on renewed p l)
+          (new-above (renewed p) (touched (graph s) a b p) (renewed-above p) (λ e. le-trans (down p e) (h .above p l)))
         where
           renewed-above : (q : ℕ) → score (graph (edited s a b on renewed)) (size s) q ≤ bound (edge (withEdge (s .edges) a b on)) (size s) q
           renewed-above q = rw (edited-graph s a b on renewed)
@@ -109,7 +115,7 @@ module _ (s : State) (a b : ℕ) (on : Bool) (renewed : ℕ → Bool) (room : si
 
 module _ (s : State) (a b : ℕ) (room : Room (size s) (s .edges)) (marks : size s ≤ 8 * length (s .marks)) (ha : a < size s) (hb : b < size s)
     (two : a ≢ b) where
-  -- ADD: the ends take their bounds, and a common neighbour's score falls below the figure that it keeps
+  -- ADD: the ends take their bounds, and a common neighbour's score falls: it is below its figure and below its bound
   pub added-honest : edge (s .edges) a b ≡ false → Honest (score (graph s) (size s)) (s .figures) (s .marks)
       → Honest (score (graph (added s a b)) (size s)) (added s a b .figures) (added s a b .marks)
   unfolding added

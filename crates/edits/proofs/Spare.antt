@@ -6,8 +6,7 @@ use Prim.Native.Nat.{_<_, ℕ}
 use native.Mathlib.Nat.{le-refl}
 use lib.ListN.{length}
 use Rattle.arith.proofs.Sums.{tabulate-ext}
-use Rattle.ego.proofs.Agreement.{Agree, degree-agree}
-use Rattle.ego.specs.Bound.{bound}
+use Rattle.ego.proofs.Agreement.{Agree, bound-agree}
 use Rattle.ego.specs.Graph.{Graph}
 use Rattle.packed.specs.Edges.{edge, withEdge}
 use Rattle.calls.proofs.AcceptLaws.{lengths-rest}
@@ -54,10 +53,12 @@ module _ (s : State) (a b : ℕ) where
 
 -- ---- they do not depend on them
 
-renewed-agree : {g g′ : Graph} (figures : List ℕ) (which which′ : ℕ → Bool) → Agree (length figures) g g′
-    → ((p : ℕ) → p < length figures → which p ≡ which′ p) → renewed g figures which ≡ renewed g′ figures which′
-unfolding renewed bound
-renewed-agree figures which which′ same w = tabulate-ext _ _ (length figures) (λ p l. rw (w p l, degree-agree (length figures) p l same))
+renewed-agree : {g g′ : Graph} (figures : List ℕ) (takes takes′ lowers lowers′ : ℕ → Bool) → Agree (length figures) g g′
+    → ((p : ℕ) → p < length figures → takes p ≡ takes′ p) → ((p : ℕ) → p < length figures → lowers p ≡ lowers′ p)
+    → renewed g figures takes lowers ≡ renewed g′ figures takes′ lowers′
+unfolding renewed
+renewed-agree figures takes takes′ lowers lowers′ same t l =
+    tabulate-ext _ _ (length figures) (λ p h. rw (t p h, l p h, bound-agree (length figures) p h same))
 
 module _ {s t : State} (h : Alike s t) (a b : ℕ) where
   module _ (ha : a < size s) (hb : b < size s) where
@@ -74,8 +75,8 @@ module _ {s t : State} (h : Alike s t) (a b : ℕ) where
         let edges = same-with-edge a b on (h .edges) in
         alike-by (edited s a b on which) (edited t a b on which′) (size s) (edited-size s a b on which)
         edges
-        (renewed-agree (s .figures) which which′ (same-agree edges) w
-        ∙ ap (λ figures. renewed (edge (withEdge (t .edges) a b on)) figures which′) (h .figures))
+        (renewed-agree (s .figures) which which′ (touched (graph s) a b) (touched (graph t) a b) (same-agree edges) w same-touched
+        ∙ ap (λ figures. renewed (edge (withEdge (t .edges) a b on)) figures which′ (touched (graph t) a b)) (h .figures))
         same-marks
 
     pub added-alike : Alike (added s a b) (added t a b)

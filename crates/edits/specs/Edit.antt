@@ -1,7 +1,7 @@
 -- Add and remove an edge. Assumes nothing.
 use mathlib.Core.Bool.{Bool, true, false, cond}
 use mathlib.Core.List.{List, [], _∷_, _++_}
-use Prim.Native.Nat.{ℕ}
+use Prim.Native.Nat.{ℕ, min}
 use lib.ListN.{length, getD}
 use Rattle.arith.specs.Sums.{tabulate}
 use Rattle.packed.specs.Edges.{edge, withEdge}
@@ -12,21 +12,27 @@ use Rattle.state.specs.State.{State, size, graph}
 use Rattle.state.specs.Refusal.{Condition, nodeNumber, sameNodes, edgePresent, edgeAbsent, crowdedBefore, crowdedAfter, ends, touched}
 use Rattle.state.specs.Outcome.{Outcome, outcome, lengths}
 
--- The figures, where the nodes that pass the test take their ceilings in g and the others keep theirs.
-unfoldable pub renewed : Graph → List ℕ → (ℕ → Bool) → List ℕ
-renewed g figures which = tabulate (λ p. cond (which p) (bound g (length figures) p) (getD figures p 0)) (length figures)
+-- A figure after an edit: the new ceiling, or the smaller of the figure and it, or the figure as it was.
+unfoldable pub newFigure : Bool → Bool → ℕ → ℕ → ℕ
+newFigure takes lowers figure ceiling = cond takes ceiling (cond lowers (min figure ceiling) figure)
 
--- The edge a, b set or cleared. The renewed nodes take their ceilings; the ends and their common neighbours become open.
+-- The figures, where the nodes that pass the first test take their ceilings in g, and of the others those that pass the second the smaller of the two.
+unfoldable pub renewed : Graph → List ℕ → (ℕ → Bool) → (ℕ → Bool) → List ℕ
+renewed g figures takes lowers = tabulate (λ p. newFigure (takes p) (lowers p) (getD figures p 0) (bound g (length figures) p)) (length figures)
+
+-- The edge a, b set or cleared. Of the ends and their common neighbours those that pass the test take their ceilings after the change, and the others
+-- the smaller of figure and ceiling; all become open.
 unfoldable pub edited : State → ℕ → ℕ → Bool → (ℕ → Bool) → State
-edited s a b on which =
+edited s a b on takes =
     let edges = withEdge (s .edges) a b on in
+    let touching = touched (graph s) a b in
     record {
       edges = edges;
-      figures = renewed (edge edges) (s .figures) which;
-      marks = staleTo (touched (graph s) a b) (s .marks) (size s);
+      figures = renewed (edge edges) (s .figures) takes touching;
+      marks = staleTo touching (s .marks) (size s);
     }
 
--- Add: both ends take the ceiling of their new link count. Each common neighbour keeps its figure.
+-- Add: both ends take their ceilings. Each common neighbour takes the smaller of its figure and its ceiling.
 unfoldable pub added : State → ℕ → ℕ → State
 added s a b = edited s a b true (ends a b)
 

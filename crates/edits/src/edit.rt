@@ -1,11 +1,11 @@
 // The calls that add and remove an edge. Where both do the same, `on` is true for an add and false for a removal.
 use crate::renewal::Renewal;
+use crate::renewal::bounds_of;
 use crate::renewal::refused;
 use crate::renewal::renew;
 use crate::touched::MAX_TOUCHED;
 use crate::touched::Touched;
 use crate::touched::degrees_counted;
-use crate::touched::degrees_in;
 use crate::touched::touched_of;
 use ego::limits::LIMIT;
 use ego::neighbours::neighbours_of;
@@ -23,20 +23,20 @@ use state::refusal::SAME_NODE;
 use state::sizes::state_refusal;
 ghost use mathlib.Core.Path.{_≡_};
 ghost use mathlib.Core.Bool.{cond};
-ghost use Prim.Native.Nat.{_+_, _≤_, max};
+ghost use Prim.Native.Nat.{_≤_};
 ghost use lib.Dec.{ltb};
-ghost use lib.ListN.{length, getD};
+ghost use lib.ListN.{getD};
 ghost use Rattle.arith.specs.Sums.{anyTo};
 ghost use Rattle.packed.specs.inside.Room.{Room};
 ghost use Rattle.packed.specs.Edges.{edge, withEdge};
-ghost use Rattle.packed.specs.inside.Degrees.{degreesOf, shifted, Shiftable};
+ghost use Rattle.packed.specs.inside.Degrees.{shifted, Shiftable};
 ghost use Rattle.ego.specs.Limits.{limit};
 ghost use Rattle.state.specs.Refusal.{refusal};
 ghost use Rattle.state.specs.Outcome.{left};
 ghost use Rattle.state.specs.Lent.{atEntry, atExit, lent};
 ghost use Rattle.edits.specs.inside.Touched.{maxTouched, staleEach, Markable};
 ghost use Rattle.edits.specs.inside.Renewal.{renewalBy};
-ghost use Rattle.edits.specs.inside.Change.{changed, Changeable, Changes, editCall, Edits, pairConditions, Steppable};
+ghost use Rattle.edits.specs.inside.Change.{Appliable, changed, Changeable, Changes, editCall, Edits, pairConditions, Steppable};
 ghost use Rattle.edits.specs.Edit.{addCall, removeCall};
 
 // Refusals 4 and 5 of a pair; 6 of an add, 7 of a removal.
@@ -91,7 +91,7 @@ fn mark_each(marks: &mut [u8], nodes: [u8; MAX_TOUCHED], count: usize)
 }
 
 // How many of the touched nodes take their bounds: the ends where an edge is added, and all where one is removed.
-fn renewed_count(on: bool, count: usize) -> usize
+fn taken_count(on: bool, count: usize) -> usize
     ensures { λ r. ⌜ r ≡ cond on 2 count ⌝ }
 {
     if on {
@@ -100,18 +100,18 @@ fn renewed_count(on: bool, count: usize) -> usize
     count
 }
 
-// Sets or clears the edge, marks the nodes that it touches, and names those that are renewed, with their degrees after it.
+// Sets or clears the edge, marks the nodes that it touches, and names them with their bounds after it.
 fn apply(
     edges: &mut [u8],
     marks: &mut [u8],
+    n: usize,
     a: usize,
     b: usize,
     on: bool,
     touching: Touched,
-    degrees: [u16; MAX_TOUCHED],
 ) -> Renewal
-    requires { ⌜ Room (max a b + 1) (now edges) × Markable (touching .nodes) (touching .count) (now marks) ⌝ }
-    ensures { λ r. ⌜ r ≡ renewalBy on touching degrees ⌝ }
+    requires { ⌜ Appliable (now edges) (now marks) n a b on touching ⌝ }
+    ensures { λ r. ⌜ r ≡ renewalBy on touching (withEdge (now (edges .entry)) a b on) n ⌝ }
     ensures { λ _. ⌜ now (edges .exit) ≡ withEdge (now (edges .entry)) a b on ⌝ }
     ensures { λ _. ⌜ now (marks .exit) ≡ staleEach (touching .nodes) (now (marks .entry)) (touching .count) ⌝ }
 {
@@ -119,11 +119,13 @@ fn apply(
     let count = touching.count;
     link(edges, a, b, on);
     mark_each(marks, nodes, count);
+    let bounds = bounds_of(edges, n, nodes, count);
     Renewal {
         refusal: 0,
         nodes,
-        degrees,
-        count: renewed_count(on, count),
+        bounds,
+        taken: taken_count(on, count),
+        count,
     }
 }
 
@@ -148,7 +150,7 @@ fn change(edges: &mut [u8], marks: &mut [u8], n: usize, a: usize, b: usize, on: 
     if any_above(after, 2) {
         return refused(CROWDED_AFTER);
     }
-    apply(edges, marks, a, b, on, touching, after)
+    apply(edges, marks, n, a, b, on, touching)
 }
 
 // An add or a removal, with all its refusals, of the edges and marks of n nodes. The figures are left to be renewed.
@@ -182,7 +184,7 @@ fn edit_state(
     renewal.refusal
 }
 
-// Adds the edge a, b. Both ends take their bounds; they and their common neighbours become stale.
+// Adds the edge a, b. Both ends take their bounds, and each common neighbour the smaller of its figure and its bound; all become stale.
 pub fn add(edges: &mut [u8], figures: &mut [u64], marks: &mut [u8], a: usize, b: usize) -> u64
     ensures { λ r. ⌜ left r (atExit edges figures marks) ≡ addCall (atEntry edges figures marks) a b ⌝ }
 {
@@ -196,24 +198,19 @@ pub fn remove(edges: &mut [u8], figures: &mut [u64], marks: &mut [u8], a: usize,
     edit_state(edges, figures, marks, a, b, false)
 }
 
-// An edit that no node's edges refuse, where a table has the degrees of all nodes; the table has the degrees after it when it returns.
+// An edit that no node's edges refuse.
 pub fn edit_step(
     edges: &mut [u8],
     figures: &mut [u64],
     marks: &mut [u8],
-    degrees: &mut [u16],
     a: usize,
     b: usize,
     on: bool,
 )
-    requires { ⌜ Steppable (lent edges figures marks) a b on × (now degrees ≡ degreesOf (now edges) (length (now figures))) ⌝ }
+    requires { ⌜ Steppable (lent edges figures marks) a b on ⌝ }
     ensures { λ _. ⌜ atExit edges figures marks ≡ changed (atEntry edges figures marks) a b on ⌝ }
-    ensures { λ _. ⌜ now (degrees .exit) ≡ degreesOf (now (edges .exit)) (length (now (figures .entry))) ⌝ }
 {
     let n = figures.len();
     let touching = touched_of(edges, neighbours_of(edges, n, a), a, b);
-    shift(degrees, a, b, on);
-    let nodes = touching.nodes;
-    let counted = degrees_in(degrees, nodes, touching.count);
-    renew(figures, apply(edges, marks, a, b, on, touching, counted));
+    renew(figures, apply(edges, marks, n, a, b, on, touching));
 }

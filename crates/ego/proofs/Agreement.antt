@@ -1,4 +1,4 @@
--- Scores and degrees depend on the edges among the nodes below n alone. Assumes nothing.
+-- Scores, bounds and degrees depend on the edges among the nodes below n alone. Assumes nothing.
 use mathlib.Core.List.{List·Memᴰ, List·Memᴰ·cases-cons}
 use mathlib.Core.Logic.{inl, inr}
 use mathlib.Core.Path.{sym, _∙_, _≡_}
@@ -9,7 +9,8 @@ use Rattle.arith.proofs.Range.{mem-range}
 use Rattle.arith.proofs.Sums.{countTo-ext}
 use Rattle.arith.specs.Lists.{range}
 use Rattle.ego.proofs.FoundLaws.{degree-is}
-use Rattle.ego.proofs.Local.{score-same}
+use Rattle.ego.proofs.Local.{bound-same, score-same}
+use Rattle.ego.specs.Bound.{bound}
 use Rattle.ego.specs.Graph.{degree, ego, Graph, neighbours}
 use Rattle.ego.specs.Score.{score}
 
@@ -33,6 +34,9 @@ module _ {g g′ : Graph} (n p : ℕ) (hp : p < n) (same : Agree n g g′) where
 
   pub score-agree : score g n p ≡ score g′ n p
   score-agree = score-same g g′ n p (λ q. same p q hp) (λ a b i j. same a b (ego-below a i) (ego-below b j))
+
+  pub bound-agree : bound g n p ≡ bound g′ n p
+  bound-agree = bound-same g g′ n p (λ q. same p q hp) (λ a b i j. same a b (ego-below a i) (ego-below b j))
 
   pub degree-agree : degree g n p ≡ degree g′ n p
   degree-agree = degree-is g n p ∙ countTo-ext (g p) (g′ p) n (λ q. same p q hp) ∙ sym (degree-is g′ n p)

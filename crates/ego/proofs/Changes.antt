@@ -1,6 +1,6 @@
 -- What one edge more does to scores: each common neighbour of its ends scores less, and every node but these and the ends scores the same.
 -- Read from g′ to g, it is what a removal does. Assumes nothing.
-use mathlib.Core.Bool.{_&&_, and-comm, false, true, true≢false}
+use mathlib.Core.Bool.{_&&_, and-comm, false, not, true, true≢false}
 use mathlib.Core.List.{List, List·Memᴰ, List·Memᴰ·cases-cons, Memᴰ·cast}
 use mathlib.Core.Logic.{inl, inr, _≢_}
 use mathlib.Core.Path.{ap, sym, _∙_, _≡_}
@@ -9,14 +9,15 @@ use native.Mathlib.Decide.{ℕ-discrete}
 use native.Mathlib.Nat.{div-mul-le-self, le-div-iff-mul-le, le-trans, mul-le-mul-left}
 use native.Mathlib.Omega.{arith}
 use lib.ListN.{length}
-use Rattle.arith.proofs.Filter.{count-le, count-most, filter-ext, filter-in}
+use Rattle.arith.proofs.Filter.{count-le, count-most, count-one-more, filter-ext, filter-in}
 use Rattle.arith.proofs.ListSums.{sum-le, sum-lt}
-use Rattle.arith.proofs.Pairs.{pairs-in}
+use Rattle.arith.proofs.Pairs.{mem-pairs, pairs-distinct, pairs-in}
 use Rattle.arith.proofs.Range.{range-mem}
 use Rattle.arith.proofs.Tests.{and-true, test}
-use Rattle.arith.specs.Lists.{pairs, range}
+use Rattle.arith.specs.Lists.{count, pairs, range}
 use Rattle.ego.proofs.Local.{score-same}
-use Rattle.ego.proofs.Shares.{derived, neighbours-linked}
+use Rattle.ego.proofs.Shares.{derived, neighbours-linked, neighbours-up}
+use Rattle.ego.specs.Bound.{bound, unlinked}
 use Rattle.ego.specs.inside.Gains.{Gains}
 use Rattle.ego.specs.inside.Derived.{common, pairScore, portion}
 use Rattle.ego.specs.Graph.{degree, ego, Graph, neighbours}
@@ -73,7 +74,7 @@ module _ (g g′ : Graph) (u v : ℕ) (change : Gains g g′ u v) where
   common-at-most n w wu wv = rw (derived g (change .old) n w, derived g′ (change .new) n w, ← gains-near n w wu wv)
       (sum-le _ _ (pairs (neighbours g n w)) (λ c i. pairScore-down g g′ (neighbours g n w) gains-more c))
 
-  module _ (n w : ℕ) (wu : g w u ≡ true) (wv : g w v ≡ true) (un : u < n) (vn : v < n) (few : degree g n w ≤ limit) where
+  module _ (n w : ℕ) (wu : g w u ≡ true) (wv : g w v ≡ true) (un : u < n) (vn : v < n) where
     near : neighbours g n w ≡ neighbours g′ n w
     near = gains-near n w
         (λ e. true≢false (sym wu ∙ ap (λ x. g x u) e ∙ change .old .loopless u))
@@ -83,20 +84,45 @@ module _ (g g′ : Graph) (u v : ℕ) (change : Gains g g′ u v) where
     unfolding neighbours
     is-near x e h = filter-in (g w) (range 0 n) (range-mem 0 n (omega arith) (omega arith)) e
 
-    lost : (a b : ℕ) → g a b ≡ false → g′ a b ≡ true → pairScore g′ (neighbours g n w) (a, b) < pairScore g (neighbours g n w) (a, b)
+    lost : degree g n w ≤ limit → (a b : ℕ) → g a b ≡ false → g′ a b ≡ true
+        → pairScore g′ (neighbours g n w) (a, b) < pairScore g (neighbours g n w) (a, b)
     unfolding pairScore portion common degree
-    lost a b e d = rw (d, e) (le-div-iff-mul-le {k = common g (neighbours g n w) a b + 1} (omega arith) .1
+    lost few a b e d = rw (d, e) (le-div-iff-mul-le {k = common g (neighbours g n w) a b + 1} (omega arith) .1
         (omega (arith, count-most (λ x. g a x && g b x) (neighbours g n w))))
 
     -- A COMMON NEIGHBOUR of the ends scores less with the edge, and more without it.
-    pub common-lower : score g′ n w < score g n w
-    common-lower = rw (derived g (change .old) n w, derived g′ (change .new) n w, ← near)
+    pub common-lower : degree g n w ≤ limit → score g′ n w < score g n w
+    common-lower few = rw (derived g (change .old) n w, derived g′ (change .new) n w, ← near)
         (elim (pairs-in (neighbours g n w) (is-near u wu un) (is-near v wv vn) ends-apart) [
           | inl m ↦ sum-lt _ _ (pairs (neighbours g n w)) (λ c i. pairScore-down g g′ (neighbours g n w) gains-more c) m
-              (lost u v (change .absent) (change .present))
+              (lost few u v (change .absent) (change .present))
           | inr m ↦ sum-lt _ _ (pairs (neighbours g n w)) (λ c i. pairScore-down g g′ (neighbours g n w) gains-more c) m
-              (lost v u (change .old .symmetric v u ∙ change .absent) (change .new .symmetric v u ∙ change .present))
+              (lost few v u (change .old .symmetric v u ∙ change .absent) (change .new .symmetric v u ∙ change .present))
         ])
+
+    fewer : (a b : ℕ) → List·Memᴰ (a, b) (pairs (neighbours g n w)) → g a b ≡ false → g′ a b ≡ true
+        → ((x y : ℕ) → x < y → (x ≡ a → y ≡ b → ⊥) → g x y ≡ g′ x y)
+        → count (unlinked g) (pairs (neighbours g n w)) ≡ count (unlinked g′) (pairs (neighbours g n w)) + 1
+    unfolding unlinked
+    fewer a b m e d other =
+        let nodes = neighbours g n w in
+        let up = neighbours-up g n w in
+        count-one-more (unlinked g′) (unlinked g) (pairs nodes) (pairs-distinct 0 nodes up) m (rw d) (rw e) (λ c i q.
+        ap not (sym (other (c .0) (c .1) (mem-pairs 0 nodes up i .less) (λ x y. q (λ t. (x t, y t))))))
+
+    -- ITS BOUND falls by 1, in grains.
+    pub bound-lower : bound g n w ≡ bound g′ n w + unit
+    unfolding bound
+    bound-lower =
+        let nodes = neighbours g n w in
+        let up = neighbours-up g n w in
+        let lower : count (unlinked g) (pairs nodes) ≡ count (unlinked g′) (pairs nodes) + 1 = elim (pairs-in nodes (is-near u wu un) (is-near v wv vn) ends-apart) [
+          | inl m ↦ fewer u v m (change .absent) (change .present)
+              (λ x y l q. change .others x y q (λ a b. omega (arith, mem-pairs 0 nodes up m .less)))
+          | inr m ↦ fewer v u m (change .old .symmetric v u ∙ change .absent) (change .new .symmetric v u ∙ change .present)
+              (λ x y l q. change .others x y (λ a b. omega (arith, mem-pairs 0 nodes up m .less)) q)
+        ] in
+        omega (arith, lower, ap (λ l. count (unlinked g′) (pairs l)) near)
 
   module _ (n w : ℕ) (wu : w ≢ u) (wv : w ≢ v) (not-both : (g w u && g w v) ≡ false) where
     in-ego : (a : ℕ) → w ≢ a → List·Memᴰ a (ego g n w) → g w a ≡ true

@@ -18,7 +18,6 @@ use Rattle.arith.specs.Lists.{pairs, range, sum}
 use Rattle.arith.specs.Sums.{bit}
 use Rattle.ego.proofs.FoundLaws.{degree-is}
 use Rattle.ego.proofs.Shares.{derived, pair-of}
-use Rattle.ego.specs.Bound.{bound}
 use Rattle.ego.specs.inside.Derived.{common, pairScore, portion}
 use Rattle.ego.specs.Graph.{degree, Graph, neighbours, Simple}
 use Rattle.ego.specs.Limits.{limit, unit}
@@ -33,14 +32,14 @@ module _ (g : Graph) (n p : ℕ) (none : (q : ℕ) → q < n → g p q ≡ false
   unfolding neighbours
   alone = filter-none (g p) (range 0 n) (λ q m. none q (rw zero-add at (mem-range 0 n m .1)))
 
-  pub unlinked-degree : degree g n p ≡ 0
+  pub edgeless-degree : degree g n p ≡ 0
   unfolding degree
-  unlinked-degree = rw alone
+  edgeless-degree = rw alone
 
   -- NO LINKS: SCORE 0.
-  pub unlinked-score : score g n p ≡ 0
+  pub edgeless-score : score g n p ≡ 0
   unfolding score
-  unlinked-score = ap (λ l. sum (map (share g n p) (pairs l))) alone
+  edgeless-score = ap (λ l. sum (map (share g n p) (pairs l))) alone
 
 -- ---- a node no two of whose neighbours are linked
 
@@ -72,10 +71,6 @@ module _ (g : Graph) (simple : Simple g) (n p : ℕ) (apart : Apart g n p) where
   pub apart-pairs : score g n p ≡ unit * pairCount (degree g n p)
   unfolding pairCount degree
   apart-pairs = omega (arith, apart-score, pairs-twice (neighbours g n p))
-
-  pub apart-bound : score g n p ≡ bound g n p
-  unfolding bound
-  apart-bound = apart-pairs
 
   -- WITH AS MANY EDGES AS A NODE MAY HAVE it is the largest score, 780 times 1.
   pub apart-most : degree g n p ≡ limit → score g n p ≡ 4167486536509296000

@@ -20,7 +20,7 @@ use Rattle.ego.specs.inside.Derived.{common, pairScore, portion}
 use Rattle.ego.specs.Graph.{degree, Graph, neighbours, Simple}
 use Rattle.ego.specs.Limits.{limit}
 use Rattle.ego.specs.Score.{score}
-use Rattle.ego.specs.inside.Words.{Ascending, firstNeighbours, linkAt, scoreAt}
+use Rattle.ego.specs.inside.Words.{Ascending, firstMembers, firstNeighbours, linkAt, scoreAt}
 use Rattle.ego.specs.declared.neighbours.Neighbours.{Neighbours}
 use Rattle.packed.proofs.EdgeLaws.{edge-comm, edge-self}
 use Rattle.packed.proofs.PairLaws.{room-mono}
@@ -51,14 +51,21 @@ found-few {es} {q = q} {p = p} f = omega (arith, f .all, count-most (edge es p) 
 
 -- ---- the struct that holds what was found
 
--- the members of p's row, written to an array
-pub found-is : (es : List ℕ) (n p : ℕ) {row nodes : List ℕ} {words count : ℕ} → n ≤ maxNodes → row ≡ rowOf es n p → words ≡ wordsFor n
+-- the members of a row, written to an array
+pub members-are : (row : List ℕ) (n : ℕ) {nodes : List ℕ} {words count : ℕ} → words ≡ wordsFor n
     → (nodes ≡ sets (replicate limit 0) 0 (membersOf row (32 * words))) × (count ≡ 0 + length (membersOf row (32 * words)))
-    → _≡_ {A = Neighbours} (record { nodes = nodes; count = count }) (firstNeighbours es n p)
-unfolding degree firstNeighbours neighbours
-found-is es n p h e m w =
-    let all = ap₂ (λ row words. membersOf row (32 * words)) e m ∙ row-members es n p (32 * wordsFor n) (omega arith) (omega arith) in
-    rw (w .0 ∙ ap₂ (λ l xs. sets l 0 xs) (padded-none limit) all ∙ sets-padded limit [] (neighbours (edge es) n p), w .1 ∙ zero-add _ ∙ ap length all)
+    → _≡_ {A = Neighbours} (record { nodes = nodes; count = count }) (firstMembers row n)
+unfolding firstMembers
+members-are row n m w =
+    let all = ap (λ words. membersOf row (32 * words)) m in
+    rw (w .0 ∙ ap₂ (λ l xs. sets l 0 xs) (padded-none limit) all ∙ sets-padded limit [] (membersOf row (32 * wordsFor n)), w .1 ∙ zero-add _ ∙ ap length all)
+
+-- those of p's row are the neighbours of p
+pub found-is : (es : List ℕ) (n p : ℕ) {row : List ℕ} → n ≤ maxNodes → row ≡ rowOf es n p → firstMembers row n ≡ firstNeighbours es n p
+unfolding degree firstMembers firstNeighbours neighbours
+found-is es n p h e =
+    let all = ap (λ row. membersOf row (32 * wordsFor n)) e ∙ row-members es n p (32 * wordsFor n) (omega arith) (omega arith) in
+    ap (λ xs. record { nodes = padded limit xs; count = length xs }) all
 
 pub found-of : {es : List ℕ} {n p : ℕ} {r : Neighbours} → r ≡ firstNeighbours es n p → Found es n p (r .nodes) (r .count)
 unfolding degree firstNeighbours
@@ -74,7 +81,7 @@ module _ {es nodes : List ℕ} {n p d : ℕ} (f : Found es n p nodes d) (few : d
   pub node-is : (i : ℕ) → i < d → getD nodes i 0 ≡ getD (neighbours (edge es) n p) i 0
   node-is i h = ap (λ xs. getD xs i 0) (f .first) ∙ getD-padded limit (neighbours (edge es) n p) i (omega arith)
 
-  below : (i : ℕ) → i < d → getD nodes i 0 < n
+  pub below : (i : ℕ) → i < d → getD nodes i 0 < n
   unfolding neighbours
   below i h =
       let m = mem-place (neighbours (edge es) n p) i (omega (arith, f .all)) in

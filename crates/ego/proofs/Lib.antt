@@ -7,6 +7,7 @@ pub mod Examples
 pub mod Extremes
 pub mod Faithful
 pub mod FoundLaws
+pub mod LinkedLaws
 pub mod JoinLaws
 pub mod Local
 pub mod RowLaws

@@ -1,4 +1,5 @@
--- The score of a node depends on its neighbourhood alone. Assumes nothing.
+-- The score of a node depends on its neighbourhood alone, and so does its bound. Assumes nothing.
+use mathlib.Core.Bool.{not}
 use mathlib.Core.List.{List, List·Memᴰ, List·Memᴰ·tail, map, _∷_}
 use mathlib.Core.Path.{ap, fun-ext, refl, _∙_, _≡_}
 use Prim.Native.Nat.{_*_, _/_, _<_, suc, zero, ℕ}
@@ -11,6 +12,7 @@ use Rattle.arith.proofs.Pairs.{mem-pairs}
 use Rattle.arith.proofs.Range.{mem-range}
 use Rattle.arith.specs.Lists.{count, filter, leastFrom, nonEmpty, pairs, range, sum}
 use Rattle.ego.proofs.Shares.{neighbours-up}
+use Rattle.ego.specs.Bound.{bound, unlinked}
 use Rattle.ego.specs.Graph.{distance, ego, Graph, inner, neighbours, shortest, walks}
 use Rattle.ego.specs.Limits.{unit}
 use Rattle.ego.specs.Score.{score, share}
@@ -43,3 +45,11 @@ module _ (g g′ : Graph) (n p : ℕ) (near : (q : ℕ) → q < n → g p q ≡ 
       ap (λ s. unit * count (inner p) s / length s) (shortest-same g g′ (ego g n p) among (c .0) (c .1) (List·Memᴰ·tail (r .first))
       ∙ ap (λ l. shortest g′ (p ∷ l) (c .0) (c .1)) neighbours-same))
       ∙ ap (λ l. sum (map (share g′ n p) (pairs l))) neighbours-same
+
+  pub bound-same : bound g n p ≡ bound g′ n p
+  unfolding bound unlinked ego
+  bound-same =
+      ap (λ l. unit * length l) (filter-mem (unlinked g) (unlinked g′) (pairs (neighbours g n p)) (λ c m.
+      let r = mem-pairs 0 (neighbours g n p) (neighbours-up g n p) m in
+      ap not (among (c .0) (c .1) (List·Memᴰ·tail (r .first)) (List·Memᴰ·tail (r .second)))))
+      ∙ ap (λ l. unit * count (unlinked g′) (pairs l)) neighbours-same

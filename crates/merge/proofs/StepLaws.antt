@@ -20,7 +20,6 @@ use Rattle.packed.proofs.PairLaws.{room-within}
 use Rattle.packed.specs.Bits.{differ}
 use Rattle.packed.specs.Edges.{edge, withEdge}
 use Rattle.packed.specs.inside.Room.{Room}
-use Rattle.packed.specs.inside.Degrees.{degreesOf}
 use Rattle.edits.proofs.EditLaws.{changed-is, edit-pair, edited-marks, edited-size}
 use Rattle.edits.specs.Edit.{edited}
 use Rattle.edits.specs.inside.Change.{changed, Steppable}
@@ -97,7 +96,7 @@ cap-step n false theirs base g a b t o d e x y hx hy q = elim (which a b x y) [
 
 -- ---- a step of the walk
 
-module _ {on : Bool} {theirs base : List ℕ} {s : State} {degrees : List ℕ} (r : Ready on theirs base s degrees) (a b : ℕ) (h : a < b) (l : b < size s) where
+module _ {on : Bool} {theirs base : List ℕ} {s : State} (r : Ready on theirs base s) (a b : ℕ) (h : a < b) (l : b < size s) where
   pub ready-rooms : Room (max a b + 1) (s .edges) × Room (max a b + 1) theirs × Room (max a b + 1) base
   ready-rooms =
       let k : a < size s = omega arith in
@@ -128,45 +127,43 @@ module _ {on : Bool} {theirs base : List ℕ} {s : State} {degrees : List ℕ} (
       fewAfter = λ p k. le-trans (within-degree (cap-within (size s) on (edge theirs) (edge base) (edge (withEdge (s .edges) a b on))) p k) (few-after p k);
     }
 
-    edited-ready : (which : ℕ → Bool) {next : List ℕ} → next ≡ degreesOf (withEdge (s .edges) a b on) (size s)
-        → Ready on theirs base (edited s a b on which) next
+    edited-ready : (which : ℕ → Bool) → Ready on theirs base (edited s a b on which)
     unfolding edited
-    edited-ready which e =
+    edited-ready which =
         let n = edited-size s a b on which in record {
           room = rw n (record { few = r .room .few; bits = omega (arith, r .room .bits, length-with-edge (s .edges) a b on) });
           marked = rw n (omega (arith, r .marked, edited-marks s a b on which));
           theirsRoom = rw n (r .theirsRoom);
           baseRoom = rw n (r .baseRoom);
-          counted = rw n e;
           capped = λ p k. rw n (few-after p (omega arith));
         }
 
 -- the step keeps what the loops need
-pub ready-kept : (on : Bool) (theirs base : List ℕ) {s t : State} {degrees next : List ℕ} (a b : ℕ) → Ready on theirs base s degrees → a < b → b < size s
-    → t ≡ stepped on (edge theirs) (edge base) a b s → next ≡ degreesOf (t .edges) (size s) → Ready on theirs base t next
+pub ready-kept : (on : Bool) (theirs base : List ℕ) {s t : State} (a b : ℕ) → Ready on theirs base s → a < b → b < size s
+    → t ≡ stepped on (edge theirs) (edge base) a b s → Ready on theirs base t
 unfolding stepped edited
-ready-kept on theirs base {s} {t} {next = next} a b r h l e f = elim (test (takes (graph s) (edge theirs) (edge base) a b && Bool·beq (edge theirs a b) on)) [
+ready-kept on theirs base {s} {t} a b r h l e = elim (test (takes (graph s) (edge theirs) (edge base) a b && Bool·beq (edge theirs a b) on)) [
   | inl q ↦ let p = and-true _ _ q in
       let k = (rw q at e) ∙ changed-is s a b on in
-      rw k (edited-ready r a b h l (p .0) (beq-same _ _ (p .1)) _ (f ∙ ap (λ u. degreesOf (u .edges) (size s)) k))
-  | inr q ↦ let k : t ≡ s = rw q at e in rw (k, f, k, ← r .counted) r
+      rw k (edited-ready r a b h l (p .0) (beq-same _ _ (p .1)) _)
+  | inr q ↦ let k : t ≡ s = rw q at e in rw k r
 ]
 
 -- ---- the walk, which started at s and stands at t, before the pair a, b
 
-pub record StepsTaken (on : Bool) (theirs base : List ℕ) (s t : State) (degrees : List ℕ) (a b : ℕ) : Type 0 where
+pub record StepsTaken (on : Bool) (theirs base : List ℕ) (s t : State) (a b : ℕ) : Type 0 where
   pub place : Place (size s) a b
   pub edgesKept : length (t .edges) ≡ length (s .edges)
   pub nodesKept : size t ≡ size s
   pub marksKept : length (t .marks) ≡ length (s .marks)
-  pub ready : Ready on theirs base t degrees
+  pub ready : Ready on theirs base t
   pub stands : t ≡ overTo (stepped on (edge theirs) (edge base)) a b s
 
 module _ (on : Bool) (theirs base : List ℕ) (s : State) where
   idle : (a b : ℕ) → differ (edge theirs a b) (edge base a b) ≡ false → (t : State) → stepped on (edge theirs) (edge base) a b t ≡ t
   idle a b e t = sym (untaken on (edge theirs) (edge base) a b t (unchanged-stays (graph t) (edge theirs) (edge base) a b e))
 
-  pub taken-first : {degrees : List ℕ} → Ready on theirs base s degrees → StepsTaken on theirs base s s degrees 0 0
+  pub taken-first : Ready on theirs base s → StepsTaken on theirs base s s 0 0
   taken-first h = record {
     place = place-first (size s);
     edgesKept = refl;
@@ -176,19 +173,19 @@ module _ (on : Bool) (theirs base : List ℕ) (s : State) where
     stands = walk-start (stepped on (edge theirs) (edge base)) theirs base idle s;
   }
 
-  module _ {t : State} {degrees : List ℕ} {a b : ℕ} {r : Pair} (w : StepsTaken on theirs base s t degrees a b) (f : NextPair theirs base (size s) a b r) where
+  module _ {t : State} {a b : ℕ} {r : Pair} (w : StepsTaken on theirs base s t a b) (f : NextPair theirs base (size s) a b r) where
     pub taken-all : r .b ≡ size s → t ≡ allStepped on theirs base s
     taken-all q = walk-end (stepped on (edge theirs) (edge base)) theirs base idle s (w .place) f q (w .stands)
 
-    pub taken-next : {u : State} {next : List ℕ} → r .b ≢ size s
+    pub taken-next : {u : State} → r .b ≢ size s
         → length (u .edges) ≡ length (t .edges) → size u ≡ size t → length (u .marks) ≡ length (t .marks)
-        → u ≡ stepped on (edge theirs) (edge base) (r .a) (r .b) t → next ≡ degreesOf (u .edges) (size t) → StepsTaken on theirs base s u next (r .a + 1) (r .b)
-    taken-next q x y z e d = record {
+        → u ≡ stepped on (edge theirs) (edge base) (r .a) (r .b) t → StepsTaken on theirs base s u (r .a + 1) (r .b)
+    taken-next q x y z e = record {
       place = place-next f q;
       edgesKept = x ∙ w .edgesKept;
       nodesKept = y ∙ w .nodesKept;
       marksKept = z ∙ w .marksKept;
-      ready = ready-kept on theirs base (r .a) (r .b) (w .ready) (f .found q .0) (omega (arith, w .nodesKept, f .found q .1)) e d;
+      ready = ready-kept on theirs base (r .a) (r .b) (w .ready) (f .found q .0) (omega (arith, w .nodesKept, f .found q .1)) e;
       stands = walk-step (stepped on (edge theirs) (edge base)) theirs base idle s (r .a) (r .b)
           (walk-next (stepped on (edge theirs) (edge base)) theirs base idle s (w .place) f (w .stands)) e;
     }

@@ -2,7 +2,7 @@
 -- merged graph. Assumes nothing.
 use mathlib.Core.Bool.{_&&_, Bool, cond, false, not, true, _||_}
 use mathlib.Core.List.{List}
-use mathlib.Core.Path.{ap, refl, sym, _∙_, _≡_}
+use mathlib.Core.Path.{refl, sym, _∙_, _≡_}
 use Prim.Native.Nat.{_+_, _<_, ℕ, _≤_}
 use native.Mathlib.Nat.{le-trans}
 use native.Mathlib.Omega.{arith}
@@ -13,7 +13,6 @@ use Rattle.ego.proofs.Within.{Within, within-agree, within-degree}
 use Rattle.packed.specs.Bits.{differ}
 use Rattle.packed.specs.Edges.{edge}
 use Rattle.packed.specs.Pairs.{pairCount}
-use Rattle.packed.specs.inside.Degrees.{degreesOf}
 use Rattle.state.proofs.LimitLaws.{few-each, within-few}
 use Rattle.state.proofs.RefusalLaws.{Fitted, sized-room}
 use Rattle.state.specs.Refusal.{bufferLength, crowdedAfter, crowdedBefore, everyone, refusal, tooMany}
@@ -105,9 +104,9 @@ module _ (s : State) (theirs base : List ℕ) where
         )
 
     -- what the loops need at the state before the removals, and before the additions
-    pub ready-way : Fitted (size s) (length (s .edges)) (length (s .marks)) → (on : Bool) {t : State} {degrees : List ℕ}
-        → t ≡ wayStart on → degrees ≡ degreesOf (t .edges) (size s) → Ready on theirs base t degrees
-    ready-way f on e d =
+    pub ready-way : Fitted (size s) (length (s .edges)) (length (s .marks)) → (on : Bool) {t : State}
+        → t ≡ wayStart on → Ready on theirs base t
+    ready-way f on e =
         let w = way-start-shows f on in
         let n = w .nodes in
         let few = f .sizes .few in
@@ -116,7 +115,6 @@ module _ (s : State) (theirs base : List ℕ) where
           marked = rw n (omega (arith, w .fits .marksFit));
           theirsRoom = rw n (record { few = few; bits = omega (arith, reconcile-accepted .0) });
           baseRoom = rw n (record { few = few; bits = omega (arith, reconcile-accepted .1) });
-          counted = rw n (d ∙ ap (λ u. degreesOf (u .edges) (size s)) e);
           capped = λ p h. rw n
               (le-trans (within-degree (start-within f on) p (omega (arith, n))) (few-each _ (size s) (reconcile-accepted .2 on) p (omega (arith, n))));
         })

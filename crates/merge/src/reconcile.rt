@@ -2,7 +2,6 @@
 use crate::merged::corrected;
 use crate::taken::take_all;
 use packed::degrees::degrees_of;
-use packed::edges::MAX_NODES;
 use state::crowded::any_among;
 use state::refusal::CROWDED_AFTER;
 use state::refusal::CROWDED_BEFORE;
@@ -11,22 +10,15 @@ use state::sizes::edge_bytes;
 use state::sizes::state_refusal;
 ghost use mathlib.Core.Path.{_≡_};
 ghost use Rattle.packed.specs.inside.Room.{Room};
-ghost use Rattle.packed.specs.inside.Degrees.{degreesOf};
 ghost use Rattle.state.specs.Refusal.{refusal};
 ghost use Rattle.state.specs.Outcome.{left};
 ghost use Rattle.state.specs.Lent.{atEntry, atExit};
 ghost use Rattle.merge.specs.Reconcile.{reconcileCall};
 ghost use Rattle.merge.specs.inside.Steps.{mergeConditions};
 
-// The refusals of a reconcile after those of the state's lengths, from the degrees before it.
-fn reconcile_refusal(
-    edges: &[u8],
-    theirs: &[u8],
-    base: &[u8],
-    n: usize,
-    degrees: [u16; MAX_NODES],
-) -> u64
-    requires { ⌜ Room n (now edges) × (degrees ≡ degreesOf (now edges) n) ⌝ }
+// The refusals of a reconcile after those of the state's lengths.
+fn reconcile_refusal(edges: &[u8], theirs: &[u8], base: &[u8], n: usize) -> u64
+    requires { ⌜ Room n (now edges) ⌝ }
     ensures { λ r. ⌜ r ≡ refusal (mergeConditions n (now (edges .entry)) (now (theirs .entry)) (now (base .entry))) ⌝ }
 {
     let bytes = edge_bytes(n);
@@ -36,6 +28,7 @@ fn reconcile_refusal(
     if base.len() != bytes {
         return LENGTH;
     }
+    let degrees = degrees_of(edges, n);
     if any_among(&degrees[..], n) {
         return CROWDED_BEFORE;
     }
@@ -61,12 +54,11 @@ pub fn reconcile(
     if lengths != 0 {
         return lengths;
     }
-    let mut degrees = degrees_of(edges, n);
-    let refusal = reconcile_refusal(edges, theirs, base, n, degrees);
+    let refusal = reconcile_refusal(edges, theirs, base, n);
     if refusal != 0 {
         return refusal;
     }
-    take_all(edges, figures, marks, theirs, base, &mut degrees[..], false);
-    take_all(edges, figures, marks, theirs, base, &mut degrees[..], true);
+    take_all(edges, figures, marks, theirs, base, false);
+    take_all(edges, figures, marks, theirs, base, true);
     0
 }

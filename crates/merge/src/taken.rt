@@ -7,7 +7,6 @@ ghost use mathlib.Core.Path.{_≡_};
 ghost use Prim.Native.Nat.{_<_};
 ghost use lib.ListN.{length};
 ghost use Rattle.packed.specs.Edges.{edge};
-ghost use Rattle.packed.specs.inside.Degrees.{degreesOf};
 ghost use Rattle.merge.specs.inside.Steps.{Ready, stepped, allStepped};
 ghost use Rattle.state.specs.Lent.{atEntry, atExit, lent};
 
@@ -18,20 +17,18 @@ fn take(
     marks: &mut [u8],
     theirs: &[u8],
     base: &[u8],
-    degrees: &mut [u16],
     a: usize,
     b: usize,
     on: bool,
 )
-    requires { ⌜ (a < b) × (b < length (now figures)) × Ready on (now theirs) (now base) (lent edges figures marks) (now degrees) ⌝ }
+    requires { ⌜ (a < b) × (b < length (now figures)) × Ready on (now theirs) (now base) (lent edges figures marks) ⌝ }
     ensures { λ _. ⌜ atExit edges figures marks ≡ stepped on (edge (now (theirs .entry))) (edge (now (base .entry))) a b (atEntry edges figures marks) ⌝ }
-    ensures { λ _. ⌜ now (degrees .exit) ≡ degreesOf (now (edges .exit)) (length (now (figures .entry))) ⌝ }
 {
     if !takes(edges, theirs, base, a, b) {
         return;
     }
     if has(theirs, a, b) == on {
-        edit_step(edges, figures, marks, degrees, a, b, on);
+        edit_step(edges, figures, marks, a, b, on);
     }
 }
 
@@ -42,12 +39,10 @@ pub(crate) fn take_all(
     marks: &mut [u8],
     theirs: &[u8],
     base: &[u8],
-    degrees: &mut [u16],
     on: bool,
 )
-    requires { ⌜ Ready on (now theirs) (now base) (lent edges figures marks) (now degrees) ⌝ }
+    requires { ⌜ Ready on (now theirs) (now base) (lent edges figures marks) ⌝ }
     ensures { λ _. ⌜ atExit edges figures marks ≡ allStepped on (now (theirs .entry)) (now (base .entry)) (atEntry edges figures marks) ⌝ }
-    ensures { λ _. ⌜ now (degrees .exit) ≡ degreesOf (now (edges .exit)) (length (now (figures .entry))) ⌝ }
 {
     let n = figures.len();
     let mut a: usize = 0;
@@ -59,7 +54,7 @@ pub(crate) fn take_all(
         if b == n {
             return;
         }
-        take(edges, figures, marks, theirs, base, degrees, a, b, on);
+        take(edges, figures, marks, theirs, base, a, b, on);
         a += 1;
     }
 }

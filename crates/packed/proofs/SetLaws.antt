@@ -1,5 +1,5 @@
 -- The laws of sets of nodes: a word's nodes in order and how many they are, a set's from its words, and a node's row. Assumes nothing.
-use mathlib.Core.Bool.{_&&_, Bool, false, true}
+use mathlib.Core.Bool.{_&&_, and-comm, Bool, false, true, _||_}
 use mathlib.Core.List.{_++_, [], List, _∷_}
 use mathlib.Core.Logic.{_≢_}
 use mathlib.Core.Path.{ap, ap₂, fun-ext, refl, sym, _∙_, _≡_}
@@ -8,7 +8,7 @@ use native.Mathlib.Decide.{decLt, ℕ-discrete}
 use native.Mathlib.Nat.{le-antisymm, le-refl, mod-eq-of-lt, one-mul, sub-zero}
 use native.Mathlib.Omega.{arith}
 use borrow.Author.Tests.{le-ltb, lt-ltb}
-use lib.Bits.{bitOr}
+use lib.Bits.{bitAnd, bitOr}
 use lib.Count.{ones, ones-cat}
 use lib.Dec.{lit<, ltb}
 use lib.ListN.{getD, getD-replicate, length, length-append, length-set, replicate, set}
@@ -18,8 +18,8 @@ use Rattle.arith.proofs.Counts.{count-skip}
 use Rattle.arith.proofs.Filter.{count-most, filter-append, filter-mem}
 use Rattle.arith.proofs.Padded.{sets-append, sets-past}
 use Rattle.arith.proofs.Range.{filter-hit, filter-skip, length-range, mem-range, range-append}
-use Rattle.arith.proofs.Sums.{countTo-ext, fill-rest, length-tabulate, sumTo-cat}
-use Rattle.arith.proofs.Words.{bits-eq, pack-is, pack-lt}
+use Rattle.arith.proofs.Sums.{countTo-ext, fill-rest, getD-tabulate, length-tabulate, sumTo-cat}
+use Rattle.arith.proofs.Words.{bit-and, bit-or, bits-eq, pack-is, pack-lt}
 use Rattle.arith.proofs.Digits.{or-is}
 use Rattle.arith.specs.Digits.{bitOf, withDigit}
 use Rattle.arith.specs.Lists.{filter, range}
@@ -31,7 +31,7 @@ use Rattle.packed.proofs.RunLaws.{run-bit, run-cat, run-clear, run-ext,
 use Rattle.packed.specs.Bits.{wordOf}
 use Rattle.packed.specs.Edges.{edge}
 use Rattle.packed.specs.Pairs.{maxNodes}
-use Rattle.packed.specs.inside.Rows.{inSet, inWord, membersIn, membersOf, rowOf, setOf}
+use Rattle.packed.specs.inside.Rows.{bothOf, eitherOf, inSet, inWord, membersIn, membersOf, rowOf, setOf}
 
 -- ---- a word
 
@@ -179,6 +179,19 @@ pub in-set : (f : ℕ → Bool) (q : ℕ) → q < maxNodes → inSet (setOf f) q
 unfolding inSet setOf
 in-set f q h = bit-packed 32 (lit< tt) f 8 q h
 
+-- the nodes that two sets have in common
+pub in-both : (x y : List ℕ) (q : ℕ) → q < maxNodes → inSet (bothOf x y) q ≡ inSet x q && inSet y q
+unfolding inSet bothOf
+in-both x y q h =
+    let word = getD-tabulate (λ k. bitAnd (getD x k 0) (getD y k 0)) 8 (q / 32) 0 (omega arith) in
+    ap (λ w. bitOf w (31 - q % 32)) word ∙ bit-and (getD x (q / 32) 0) (getD y (q / 32) 0) (31 - q % 32)
+
+pub in-either : (x y : List ℕ) (q : ℕ) → q < maxNodes → inSet (eitherOf x y) q ≡ inSet x q || inSet y q
+unfolding inSet eitherOf
+in-either x y q h =
+    let word = getD-tabulate (λ k. bitOr (getD x k 0) (getD y k 0)) 8 (q / 32) 0 (omega arith) in
+    ap (λ w. bitOf w (31 - q % 32)) word ∙ bit-or (getD x (q / 32) 0) (getD y (q / 32) 0) (31 - q % 32)
+
 -- one node more, as code puts it in
 set-put : (f g : ℕ → Bool) (q : ℕ) → q < maxNodes → g q ≡ true → ((r : ℕ) → r ≢ q → g r ≡ f r)
     → set (setOf f) (q / 32) (bitOr (getD (setOf f) (q / 32) 0) (1 * 2 ^ (31 - q % 32) % 2 ^ 32)) ≡ setOf g
@@ -215,6 +228,10 @@ module _ (es : List ℕ) (n p : ℕ) where
 
   neighbour-past : (q : ℕ) → n ≤ q → neighbour q ≡ false
   neighbour-past q h = rw (le-ltb q n h)
+
+  pub in-row : (q : ℕ) → q < n → n ≤ maxNodes → inSet (rowOf es n p) q ≡ edge es p q
+  unfolding rowOf
+  in-row q h few = in-set neighbour q (omega arith) ∙ neighbour-below q h
 
   abbrev pub rowWord : ℕ → ℕ
   rowWord k = packTo (λ j. neighbour (32 * k + (31 - j))) 32
@@ -274,3 +291,15 @@ module _ (es : List ℕ) (n p : ℕ) where
       filter-mem (inSet (rowOf es n p)) neighbour (range 0 m) (λ q l. in-set neighbour q (omega (arith, mem-range 0 m l .1)))
       ∙ ap (λ k. filter neighbour (range 0 k)) (sym (sub-zero m)) ∙ filter-skip neighbour 0 n m zero-le h (λ q a b. neighbour-past q a)
       ∙ ap (λ m. filter neighbour (range 0 m)) (sub-zero n) ∙ filter-mem neighbour (edge es p) (range 0 n) (λ q m. neighbour-below q (omega (arith, mem-range 0 n m .1)))
+
+-- the neighbours of p and of q that are below q
+pub row-common : (es : List ℕ) (n p q m : ℕ) → q ≤ n → q ≤ m → m ≤ maxNodes
+    → countTo (inSet (bothOf (rowOf es n p) (rowOf es q q))) m ≡ countTo (λ k. edge es p k && edge es q k) q
+unfolding rowOf
+row-common es n p q m l h few =
+    countTo-ext (inSet (bothOf (rowOf es n p) (rowOf es q q))) (λ k. neighbour es n p k && neighbour es q q k) m (λ k b.
+    let small : k < maxNodes = omega arith in
+    in-both (rowOf es n p) (rowOf es q q) k small ∙ ap₂ (λ a b. a && b) (in-set (neighbour es n p) k small) (in-set (neighbour es q q) k small))
+    ∙ count-skip (λ k. neighbour es n p k && neighbour es q q k) q m h (λ k a b. rw (neighbour-past es q q k a) (and-comm (neighbour es n p k) false))
+    ∙ countTo-ext (λ k. neighbour es n p k && neighbour es q q k) (λ k. edge es p k && edge es q k) q (λ k b.
+    ap₂ (λ a b. a && b) (neighbour-below es n p k (omega arith)) (neighbour-below es q q k b))

@@ -42,7 +42,7 @@ module _ (ds : List ℕ) (a b : ℕ) (on : Bool) where
   unfolding shifted
   shifted-other p c d = getD-set-other (set ds a (moved on (getD ds a 0))) b p (moved on (getD ds b 0)) 0 d ∙ getD-set-other ds a p (moved on (getD ds a 0)) 0 c
 
-  pub length-shifted : length (shifted ds a b on) ≡ length ds
+  length-shifted : length (shifted ds a b on) ≡ length ds
   unfolding shifted
   length-shifted = simp length-set
 

@@ -1,8 +1,10 @@
 // Sets of nodes as words of bits, the most significant bit of a word first: a node's row of the adjacency matrix is the set of its neighbours.
 use crate::bits::get;
+use crate::edges::MAX_NODES;
 use crate::edges::row_start;
 use crate::runs::least;
 use crate::runs::run_of;
+ghost use mathlib.Core.Bool.{true};
 ghost use mathlib.Core.Path.{_≡_};
 ghost use Prim.Native.Nat.{_*_, _+_, _≤_, _<_};
 ghost use lib.ListN.{length};
@@ -10,12 +12,15 @@ ghost use lib.Seq.{sets};
 ghost use Rattle.arith.specs.Sums.{countTo};
 ghost use Rattle.packed.specs.Pairs.{maxNodes};
 ghost use Rattle.packed.specs.inside.Room.{Room};
-ghost use Rattle.packed.specs.inside.Rows.{inSet, inWord, membersIn, membersOf, rowOf, rowWords, wordsFor};
+ghost use Rattle.packed.specs.inside.Rows.{bothOf, eitherOf, inSet, inWord, membersIn, membersOf, rowOf, rowsWithin, rowWithin, rowWords, setOf, wordsFor};
 
 // The words of a set of nodes: 32 nodes in each.
 pub const ROW_WORDS: usize = 8;
 
 pub type Row = [u32; ROW_WORDS];
+
+// A row for each node that a graph may have.
+pub type Rows = [Row; MAX_NODES];
 
 // The neighbours of p below p: the run of p's bits, word by word.
 fn row_below(edges: &[u8], p: usize) -> Row
@@ -64,8 +69,67 @@ fn ones_of(word: u32) -> usize
     u32::count_ones(word) as usize
 }
 
+// The set of all nodes.
+pub fn every_node() -> Row
+    ensures { λ r. ⌜ r ≡ setOf (λ q. true) ⌝ }
+{
+    [4294967295u32; ROW_WORDS]
+}
+
+// The nodes that two sets have in common.
+pub fn both(x: Row, y: Row) -> Row
+    ensures { λ r. ⌜ r ≡ bothOf x y ⌝ }
+{
+    let mut row = [0u32; ROW_WORDS];
+    for k in 0..ROW_WORDS {
+        row[k] = x[k] & y[k];
+    }
+    row
+}
+
+// A set takes in the nodes of a row.
+pub fn include(set: &mut [u32], row: Row)
+    requires { ⌜ length (now set) ≡ rowWords ⌝ }
+    ensures { λ _. ⌜ now (set .exit) ≡ eitherOf (now (set .entry)) row ⌝ }
+{
+    for k in 0..ROW_WORDS {
+        set[k] = set[k] | row[k];
+    }
+}
+
+// Whether a set has node q.
+fn contains(set: Row, q: usize) -> bool
+    requires { ⌜ q < maxNodes ⌝ }
+    ensures { λ r. ⌜ r ≡ inSet set q ⌝ }
+{
+    (set[q / 32] >> (31 - q % 32)) % 2 == 1
+}
+
+// The neighbours of q below q, where the set has q, and none elsewhere.
+fn row_within(edges: &[u8], set: Row, q: usize) -> Row
+    requires { ⌜ Room (q + 1) (now edges) ⌝ }
+    ensures { λ r. ⌜ r ≡ rowWithin (now (edges .entry)) set q ⌝ }
+{
+    if contains(set, q) {
+        return row_below(edges, q);
+    }
+    [0u32; ROW_WORDS]
+}
+
+// The same for each of n nodes.
+pub fn rows_within(edges: &[u8], n: usize, set: Row) -> Rows
+    requires { ⌜ Room n (now edges) ⌝ }
+    ensures { λ r. ⌜ r ≡ rowsWithin (now (edges .entry)) n set ⌝ }
+{
+    let mut rows = [[0u32; ROW_WORDS]; MAX_NODES];
+    for q in 0..n {
+        rows[q] = row_within(edges, set, q);
+    }
+    rows
+}
+
 // How many nodes the first words of a set have.
-pub(crate) fn size_of(row: Row, words: usize) -> usize
+pub fn size_of(row: Row, words: usize) -> usize
     requires { ⌜ words ≤ rowWords ⌝ }
     ensures { λ r. ⌜ r ≡ countTo (inSet row) (32 * words) ⌝ }
 {

@@ -1,21 +1,20 @@
--- What the degrees of one pass say of a graph: whether a node has too many edges, and each node's bound. Assumes nothing.
+-- What the degrees of one pass say of a graph: whether a node has too many edges. Assumes nothing.
 use mathlib.Core.Bool.{Bool, false}
 use mathlib.Core.List.{List}
 use mathlib.Core.Path.{ap, sym, _∙_, _≡_}
-use Prim.Native.Nat.{_*_, _<_, ℕ, _≤_}
+use Prim.Native.Nat.{_<_, ℕ, _≤_}
 use borrow.Author.Tests.{ltb-false}
 use lib.Dec.{ltb}
 use lib.ListN.{getD}
-use Rattle.arith.proofs.Sums.{anyTo-ext, anyTo-false, tabulate-ext}
-use Rattle.arith.specs.Sums.{anyTo, tabulate}
+use Rattle.arith.proofs.Sums.{anyTo-ext, anyTo-false}
+use Rattle.arith.specs.Sums.{anyTo}
 use Rattle.ego.proofs.FoundLaws.{degree-is}
-use Rattle.ego.specs.Bound.{bound}
 use Rattle.ego.specs.Graph.{degree}
-use Rattle.ego.specs.Limits.{limit, unit}
+use Rattle.ego.specs.Limits.{limit}
 use Rattle.packed.proofs.DegreeLaws.{degree-at}
 use Rattle.packed.specs.inside.Degrees.{degreesOf}
 use Rattle.packed.specs.Edges.{edge}
-use Rattle.packed.specs.Pairs.{maxNodes, pairCount}
+use Rattle.packed.specs.Pairs.{maxNodes}
 use Rattle.state.specs.Refusal.{everyone, tooMany}
 
 -- where none of the first n degrees is too many
@@ -29,7 +28,3 @@ module _ (es : List ℕ) (n : ℕ) {degrees : List ℕ} (few : n ≤ maxNodes) (
   pub over-by : {t : Bool} → t ≡ anyTo (λ p. ltb limit (getD degrees p 0)) n → t ≡ tooMany (edge es) n everyone
   unfolding tooMany
   over-by q = q ∙ anyTo-ext _ _ n (λ p h. ap (ltb limit) (degree-of p h))
-
-  pub bounds-by : tabulate (λ p. unit * pairCount (getD degrees p 0)) n ≡ tabulate (bound (edge es) n) n
-  unfolding bound
-  bounds-by = tabulate-ext _ _ n (λ p h. ap (λ d. unit * pairCount d) (degree-of p h))

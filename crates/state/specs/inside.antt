@@ -1,3 +1,4 @@
 -- What only the contracts inside the library cite: no promise needs it.
+pub mod Bounds
 pub mod Honest
 pub mod MaxSizes

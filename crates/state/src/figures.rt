@@ -1,11 +1,10 @@
 // The figures of a state's nodes: cached scores, or bounds of them.
-use ego::bound::bound_at;
+use ego::bound::bound_of;
+use packed::rows::every_node;
+use packed::rows::rows_within;
 ghost use mathlib.Core.Path.{_≡_};
-ghost use Prim.Native.Nat.{ℕ, _*_, _≤_, _<_};
-ghost use lib.ListN.{length, getD, replicate};
-ghost use Rattle.arith.specs.Sums.{tabulate};
-ghost use Rattle.packed.specs.Pairs.{pairCount};
-ghost use Rattle.ego.specs.Limits.{limit, unit};
+ghost use lib.ListN.{length, replicate};
+ghost use Rattle.state.specs.inside.Bounds.{Boundable, boundsOf};
 
 // Sets every figure to 0.
 pub fn set_zero(figures: &mut [u64])
@@ -16,12 +15,14 @@ pub fn set_zero(figures: &mut [u64])
     }
 }
 
-// Sets every figure to the bound of its node's degree.
-pub fn set_bounds(degrees: &[u16], figures: &mut [u64])
-    requires { ⌜ (length (now figures) ≤ length (now degrees)) × ((p : ℕ) → p < length (now figures) → getD (now degrees) p 0 ≤ limit) ⌝ }
-    ensures { λ _. ⌜ now (figures .exit) ≡ tabulate (λ p. unit * pairCount (getD (now (degrees .entry)) p 0)) (length (now (figures .entry))) ⌝ }
+// Sets every figure to its node's bound.
+pub fn set_bounds(edges: &[u8], figures: &mut [u64])
+    requires { ⌜ Boundable (now edges) (length (now figures)) ⌝ }
+    ensures { λ _. ⌜ now (figures .exit) ≡ boundsOf (now (edges .entry)) (length (now (figures .entry))) ⌝ }
 {
-    for p in 0..figures.len() {
-        figures[p] = bound_at(degrees[p] as u64);
+    let n = figures.len();
+    let below = rows_within(edges, n, every_node());
+    for p in 0..n {
+        figures[p] = bound_of(edges, n, p, &below[..]);
     }
 }

@@ -3,7 +3,7 @@ use mathlib.Core.Bool.{Bool, cond, not}
 use mathlib.Core.List.{List, [], _∷_, _++_}
 use mathlib.Core.Logic.{_≢_}
 use mathlib.Core.Path.{_≡_}
-use Prim.Native.Nat.{ℕ, _≤_, _<_}
+use Prim.Native.Nat.{ℕ, _+_, _≤_, _<_, max}
 use lib.Dec.{eqb}
 use lib.ListN.{length}
 use Rattle.packed.specs.inside.Room.{Room}
@@ -15,9 +15,10 @@ use Rattle.state.specs.State.{State, state, size, graph}
 use Rattle.state.specs.Refusal.{Condition, refusal, nodeNumber, sameNodes, edgePresent, edgeAbsent, crowdedBefore, crowdedAfter, ends, touched}
 use Rattle.state.specs.Outcome.{Outcome, left, outcome, stateLengths}
 use Rattle.edits.specs.Edit.{added, removed}
-use Rattle.edits.specs.inside.Touched.{touchedOf, ofEach}
-use Rattle.edits.specs.inside.Renewal.{renewalBy, noRenewal, Renewable, renewedBy}
+use Rattle.edits.specs.inside.Touched.{Markable, touchedOf}
+use Rattle.edits.specs.inside.Renewal.{BoundEach, renewalBy, noRenewal, Renewable, renewedBy}
 use Rattle.edits.specs.declared.renewal.Renewal.{Renewal}
+use Rattle.edits.specs.declared.touched.Touched.{Touched}
 
 -- a state after it, where it is accepted
 abbrev pub changed : State → ℕ → ℕ → Bool → State
@@ -40,11 +41,9 @@ editConditions edges marks n a b on = stateLengths n (length edges) (length mark
 abbrev pub editCall : State → ℕ → ℕ → Bool → Outcome
 editCall s a b on = outcome (editConditions (s .edges) (s .marks) (size s) a b on) s (changed s a b on)
 
--- what it leaves to be written to the figures: its touched nodes, with their degrees after it
+-- what it leaves to be written to the figures: its touched nodes, with their bounds after it
 unfoldable pub renewalOf : List ℕ → ℕ → ℕ → ℕ → Bool → Renewal
-renewalOf edges n a b on =
-    let t = touchedOf (edge edges) n a b in
-    renewalBy on t (ofEach (degree (edge (withEdge edges a b on)) n) (t .nodes) (t .count))
+renewalOf edges n a b on = renewalBy on (touchedOf (edge edges) n a b) (withEdge edges a b on) n
 
 unfoldable pub renewalUnder : List Condition → Renewal → Renewal
 renewalUnder conditions r = let refused = refusal conditions in cond (eqb refused 0) r (noRenewal refused)
@@ -78,3 +77,9 @@ pub record Steppable (s : State) (a b : ℕ) (on : Bool) : Type 0 where
   pub pair : Changeable (s .edges) (s .marks) (size s) a b on
   pub fewBefore : (p : ℕ) → p < size s → degree (graph s) (size s) p ≤ limit
   pub fewAfter : (p : ℕ) → p < size s → degree (edge (withEdge (s .edges) a b on)) (size s) p ≤ limit
+
+-- the touched nodes can be marked, and have bounds after it
+pub record Appliable (edges marks : List ℕ) (n a b : ℕ) (on : Bool) (t : Touched) : Type 0 where
+  pub room : Room (max a b + 1) edges
+  pub marking : Markable (t .nodes) (t .count) marks
+  pub bounding : BoundEach (withEdge edges a b on) n (t .nodes) (t .count)

@@ -7,7 +7,7 @@ use lib.ListN.{length}
 use Rattle.packed.specs.Bits.{differ}
 use Rattle.packed.specs.inside.Room.{Room}
 use Rattle.packed.specs.Edges.{edge, withEdge}
-use Rattle.packed.specs.inside.Degrees.{degreesOf, shifted, Shiftable}
+use Rattle.packed.specs.inside.Degrees.{shifted, Shiftable}
 use Rattle.ego.specs.Limits.{limit}
 use Rattle.ego.specs.Graph.{degree, Graph}
 use Rattle.state.specs.Marks.{markBytes}
@@ -54,11 +54,10 @@ allStepped on theirs base s = overPairs (stepped on (edge theirs) (edge base)) (
 unfoldable pub cap : Bool → Graph → Graph → Graph → Graph
 cap on theirs base g a b = g a b || (on && (theirs a b && differ (theirs a b) (base a b)))
 
--- the lengths that the loops need, the degrees of the nodes, and no more of them than the limit on the way
-pub record Ready (on : Bool) (theirs base : List ℕ) (s : State) (degrees : List ℕ) : Type 0 where
+-- the lengths that the loops need, and no node with more edges than the limit on the way
+pub record Ready (on : Bool) (theirs base : List ℕ) (s : State) : Type 0 where
   pub room : Room (size s) (s .edges)
   pub marked : markBytes (size s) ≤ length (s .marks)
   pub theirsRoom : Room (size s) theirs
   pub baseRoom : Room (size s) base
-  pub counted : degrees ≡ degreesOf (s .edges) (size s)
   pub capped : (p : ℕ) → p < size s → degree (cap on (edge theirs) (edge base) (graph s)) (size s) p ≤ limit

@@ -1,19 +1,16 @@
 -- `calls::snapshot::load` meets its contract. Assumes nothing.
 use mathlib.Core.List.{[]}
 use mathlib.Core.Path.{ap, refl, sym, _∙_, _≡_}
-use Prim.Native.Nat.{_+_, _≤_}
+use Prim.Native.Nat.{_+_}
 use native.Mathlib.Omega.{arith}
 use denote.Ref.{now}
 use lib.ListN.{length}
-use Rattle.packed.proofs.DegreeLaws.{length-degrees}
-use Rattle.packed.specs.inside.Degrees.{degreesOf}
 use Rattle.packed.specs.Edges.{edge}
 use Rattle.state.specs.Lent.{lent}
 use Rattle.state.specs.State.{State}
-use Rattle.state.proofs.DegreeLaws.{bounds-by, over-by, within-by}
 use Rattle.calls.proofs.OutcomeLaws.{call-accepted, call-refused, lengths-refused, loaded-is}
 use Rattle.state.proofs.RefusalLaws.{Fitted, fitted-by}
-use Rattle.calls.proofs.SnapshotLaws.{Fits, fits-by, form-refused, load-crowded, load-passed, part-is, part-length}
+use Rattle.calls.proofs.SnapshotLaws.{copied-bounds, Fits, fits-by, form-refused, load-crowded, load-passed, part-is, part-length}
 use Rattle.state.specs.Refusal.{everyone, snapshotEdges, tooMany}
 use Rattle.calls.specs.Snapshot.{loadCall}
 use borrow.Author.Needs.{needs}
@@ -29,8 +26,8 @@ given c = lent (entry c .args .edges) (entry c .args .figures) (entry c .args .m
 abbrev start : tie.Else2 → tie.Start
 start c = entry (c .before .before .before)
 
-abbrev form : tie.After-degrees → tie.Else2
-form c = c .before .before .before
+abbrev form : tie.After-any-over → tie.Else2
+form c = c .before .before
 
 -- what is known once the form has passed
 fitted : (c : tie.Else2) →
@@ -43,24 +40,12 @@ fits : (c : tie.Else2) →
     Fits (length (now (s .figures))) (now (s .snapshot))
 fits c = fits-by _ (now (start c .args .snapshot)) [] (c .before .form-refusal .ensures) (c .if2 .left)
 
--- and once the degrees are there
-degrees-are : (c : tie.After-degrees) →
+over : (c : tie.After-any-over) →
     let s = start (form c) .args in
-    c .before .degrees-of .result ≡ degreesOf (snapshotEdges (now (s .snapshot))) (length (now (s .figures)))
-degrees-are c = let a = start (form c) .args in c .before .degrees-of .ensures ∙ ap (λ l. degreesOf l (length (now (a .figures)))) (part-is (now (a .snapshot)))
-
-degrees-long : (c : tie.After-degrees) → length (now (start (form c) .args .figures)) ≤ length (c .before .degrees-of .result)
-degrees-long c =
-    let a = start (form c) .args in
-    omega (arith, ap length (degrees-are c), length-degrees (snapshotEdges (now (a .snapshot))) (length (now (a .figures))), fitted (form c) .sizes .few)
-
-over : (c : tie.After-any-among) →
-    let s = start (form (c .before)) .args in
-    c .any-among .result ≡ tooMany (edge (snapshotEdges (now (s .snapshot)))) (length (now (s .figures))) everyone
+    c .any-over .result ≡ tooMany (edge (snapshotEdges (now (s .snapshot)))) (length (now (s .figures))) everyone
 over c =
-    let here = form (c .before) in
-    let a = start here .args in
-    over-by (snapshotEdges (now (a .snapshot))) (length (now (a .figures))) (fitted here .sizes .few) (degrees-are (c .before)) (c .any-among .ensures)
+    let s = start (form c) .args in
+    c .any-over .ensures ∙ ap (λ l. tooMany (edge l) (length (now (s .figures))) everyone) (part-is (now (s .snapshot)))
 
 returns : tie.Need-returns
 unfolding loadCall
@@ -73,71 +58,64 @@ returns-2 c =
     call-refused (given sized) _ _ (fitted-by (sized .state-refusal .ensures) (c .before .before .if1 .left))
     (form-refused _ (now (entry sized .args .snapshot)) (c .before .form-refusal .ensures) (c .if2 .taken)) (c .if2 .taken)
 
-sub-degrees-of : tie.Need-sub-degrees-of
-sub-degrees-of c = omega (arith, fits c .long)
+sub-any-over : tie.Need-sub-any-over
+sub-any-over c = omega (arith, fits c .long)
 
-part-degrees-of-start : tie.Need-part-degrees-of-start
-part-degrees-of-start c = omega (arith, fits c .long)
+part-any-over-start : tie.Need-part-any-over-start
+part-any-over-start c = omega (arith, fits c .long)
 
-degrees-of-requires : tie.Need-degrees-of-requires
-degrees-of-requires c κs =
+any-over-requires : tie.Need-any-over-requires
+any-over-requires c κs =
     let s = start (c .before) in
     let f = fitted (c .before) in
     record { few = f .sizes .few; bits = omega (arith, part-length (now (s .args .snapshot)) (fits (c .before) .long)) }
 
-any-among-requires : tie.Need-any-among-requires
-any-among-requires c κs = degrees-long c
-
 returns-3 : tie.Need-returns-3
 unfolding loadCall
 returns-3 c =
-    let e = form (c .before .before) in
+    let e = form (c .before) in
     call-refused (given (e .before .before .before)) _ _ (fitted e)
     (load-crowded _ (now (start e .args .snapshot)) (e .before .form-refusal .ensures) (e .if2 .left) (sym (over (c .before)) ∙ c .if3 .taken))
     (λ q. omega arith)
 
 -- the writes, back from one to the one before it
-abbrev degrees : tie.After-copy-edges → tie.After-degrees
-degrees c = c .before .before .before .before
+abbrev counted : tie.After-copy-edges → tie.After-any-over
+counted c = c .before .before .before
 
-abbrev copied : tie.After-set-bounds → tie.After-copy-edges
-copied c = c .before .before .before .before .before
+abbrev copied : tie.After-set-bounds-arg2 → tie.After-copy-edges
+copied c = c .before .before .before .before
 
-abbrev few : tie.After-edges → tie.Else3
-few c = c .before .before .before
-
-abbrev bounds : tie.After-slice-known6 → tie.After-set-bounds
-bounds c = c .before .before .before .before .before .before
+abbrev bounds : tie.After-set-stale-arg → tie.After-set-bounds
+bounds c = c .before .before .before
 
 copy-edges-requires : tie.Need-copy-edges-requires
-copy-edges-requires c κs = let e = form (c .before .before .before) in fits e .long ∙ ap (λ m. 1 + m) (sym (fitted e .sizes .edgesFit))
+copy-edges-requires c κs = let e = form (c .before .before) in fits e .long ∙ ap (λ m. 1 + m) (sym (fitted e .sizes .edgesFit))
 
 set-bounds-requires : tie.Need-set-bounds-requires
 set-bounds-requires c κs =
-    let passed = few (c .before .before .before) in
-    let d = passed .before .before in
-    (degrees-long d, within-by (d .before .degrees-of .result) _ (passed .before .any-among .ensures) (passed .if3 .left))
+    let copy = copied c in
+    let passed = copy .before .before in
+    let e = form (passed .before) in
+    copied-bounds (fitted e .sizes .few) (fits e) (copy .copy-edges .ensures) (sym (over (passed .before)) ∙ passed .if3 .left)
 
 set-stale-requires : tie.Need-set-stale-requires
-set-stale-requires c κs = fitted (form (degrees (copied (c .before .before .before)))) .marksFit
+set-stale-requires c κs = fitted (form (counted (copied (bounds c .before)))) .marksFit
 
 returns-4 : tie.Need-returns-4
 unfolding loadCall
 returns-4 c =
-    let bounded = bounds c in
-    let copy = copied bounded in
+    let bounded = bounds (c .before .before .before) in
+    let copy = copied (bounded .before) in
     let passed = copy .before .before in
-    let d = passed .before .before in
-    let e = form d in
+    let e = form (passed .before) in
     let snapshot = now (start e .args .snapshot) in
     call-accepted (given (e .before .before .before)) _ _ (fitted e)
     (load-passed _ snapshot (e .before .form-refusal .ensures) (e .if2 .left) (sym (over (passed .before)) ∙ passed .if3 .left)) refl
-    (loaded-is _ (copy .copy-edges .ensures) (bounded .set-bounds .ensures ∙ bounds-by (snapshotEdges snapshot) _ (fitted e .sizes .few) (degrees-are d))
-    (c .before .before .set-stale .ensures))
+    (loaded-is _ (copy .copy-edges .ensures) (bounded .set-bounds .ensures) (c .before .before .set-stale .ensures))
 
 pub load-spec : {M : Type 1} → statement M
 load-spec =
     tie.close
-    (tie.spec (λ c κs. search needs) returns (λ c κs. search needs) returns-2 sub-degrees-of part-degrees-of-start (λ c. search needs)
-    degrees-of-requires (λ c. search needs) any-among-requires returns-3 copy-edges-requires (λ c. search needs) set-bounds-requires
-    set-stale-requires (λ c. search needs) (λ c. search needs) (λ c. search needs) returns-4)
+    (tie.spec (λ c κs. search needs) returns (λ c κs. search needs) returns-2 sub-any-over part-any-over-start (λ c. search needs)
+    any-over-requires returns-3 copy-edges-requires set-bounds-requires set-stale-requires (λ c. search needs) (λ c. search needs) (λ c. search needs)
+    returns-4)

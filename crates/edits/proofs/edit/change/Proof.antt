@@ -46,7 +46,7 @@ accepted-at : (c : tie.Else3) →
     let s = start (near t) .args in
     let es = now (s .edges) in
     (refusal (crowding es (s .n) (s .a) (s .b) (s .on)) ≡ 0)
-    × Editable es (now (s .marks)) (s .n) (s .a) (s .b) (s .on) (t .touched-of .result) (c .before .before .after-edit .result)
+    × Editable es (now (s .marks)) (s .n) (s .a) (s .b) (s .on) (t .touched-of .result)
 accepted-at c =
     let moved = c .before .before in
     let above = tested moved in

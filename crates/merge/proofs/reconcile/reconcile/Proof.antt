@@ -19,18 +19,18 @@ use Rattle.merge.proofs.reconcile.reconcile.Tie as tie
 abbrev entry : tie.After-state-refusal → tie.Start
 entry c = c .before .before .before .before .before .before
 
--- where the lengths have passed, where the degrees are counted, and where the call is refused or not
+-- where the lengths have passed, and where the call is refused or not
 abbrev passed : tie.After-reconcile-refusal → tie.Else1
-passed c = c .before .before .before .before
+passed c = c .before .before
 
-abbrev accepted : tie.After-degrees → tie.Else2
-accepted c = c .before .before .before .before
+abbrev accepted : tie.After-take-all-arg3 → tie.Else2
+accepted c = c .before .before .before
 
-abbrev removed : tie.After-degrees3 → tie.After-take-all
-removed c = c .before .before .before .before .before .before .before .before .before .before .before
+abbrev removed : tie.After-take-all-arg6 → tie.After-take-all
+removed c = c .before .before .before .before .before .before .before .before .before
 
-abbrev added : tie.After-degrees4 → tie.After-take-all2
-added c = c .before .before .before .before .before .before .before
+abbrev added : tie.After-slice-known9 → tie.After-take-all2
+added c = c .before .before .before .before .before .before
 
 abbrev given : tie.Start → State
 given s = lent (s .args .edges) (s .args .figures) (s .args .marks)
@@ -46,11 +46,8 @@ returns : tie.Need-returns
 unfolding reconcileCall
 returns c = lengths-refused (given (entry (c .before))) _ _ (c .before .state-refusal .ensures) (c .if1 .taken)
 
-degrees-of-requires : tie.Need-degrees-of-requires
-degrees-of-requires c κs = sized-room (fits (c .before) .sizes)
-
 reconcile-refusal-requires : tie.Need-reconcile-refusal-requires
-reconcile-refusal-requires c κs = (sized-room (fits (c .before .before .before) .sizes), c .before .degrees-of .ensures)
+reconcile-refusal-requires c κs = sized-room (fits (c .before) .sizes)
 
 returns-2 : tie.Need-returns-2
 unfolding reconcileCall
@@ -63,7 +60,6 @@ take-all-requires c κs =
     let at = accepted c in
     let s = entry (passed (at .before) .before) in
     ready-way (given s) (now (s .args .theirs)) (now (s .args .base)) (passes at) (fits (passed (at .before))) false refl
-    (at .before .before .before .degrees-of .ensures)
 
 take-all-requires-2 : tie.Need-take-all-requires-2
 take-all-requires-2 c κs =
@@ -72,7 +68,7 @@ take-all-requires-2 c κs =
     let s = entry (passed (at .before) .before) in
     let f = fits (passed (at .before)) in
     ready-way (given s) (now (s .args .theirs)) (now (s .args .base)) (passes at) f true
-    (take .ensures .0 ∙ way-start-stepped (given s) (now (s .args .theirs)) (now (s .args .base)) f) (take .ensures .1)
+    (take .ensures ∙ way-start-stepped (given s) (now (s .args .theirs)) (now (s .args .base)) f)
 
 returns-3 : tie.Need-returns-3
 unfolding reconcileCall
@@ -84,11 +80,10 @@ returns-3 c =
     let f = fits (passed (at .before)) in
     call-accepted (given s) _ _ f (at .before .reconcile-refusal .ensures) (at .if2 .left)
     (steps-reconcile (given s) (now (s .args .theirs)) (now (s .args .base)) f
-    (first .take-all .ensures .0) (first .take-all .kept .1 .0) (again .take-all2 .ensures .0))
+    (first .take-all .ensures) (first .take-all .kept .1 .0) (again .take-all2 .ensures))
 
 pub reconcile-spec : {M : Type 1} → statement M
 reconcile-spec =
     tie.close
-    (tie.spec (λ c κs. search needs) returns degrees-of-requires reconcile-refusal-requires (λ c. search needs) returns-2
-    (λ c. search needs) take-all-requires (λ c. search needs) take-all-requires-2 (λ c. search needs) (λ c. search needs)
-    (λ c. search needs) returns-3)
+    (tie.spec (λ c κs. search needs) returns reconcile-refusal-requires (λ c. search needs) returns-2 take-all-requires take-all-requires-2
+    (λ c. search needs) (λ c. search needs) (λ c. search needs) returns-3)

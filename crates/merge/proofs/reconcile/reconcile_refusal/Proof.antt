@@ -18,8 +18,8 @@ use Rattle.merge.proofs.reconcile.reconcile_refusal.Tie as tie
 abbrev start : tie.After-edge-bytes → tie.Start
 start c = c .before .before .before .before
 
-abbrev bytes : tie.After-any-among → tie.After-edge-bytes
-bytes c = c .before .before .before .before
+abbrev passed : tie.After-any-among → tie.Else2
+passed c = c .before .before .before
 
 abbrev before : tie.After-any-among2 → tie.After-any-among
 before c = c .before .before .before .before
@@ -33,14 +33,16 @@ fitted c cs =
     passed-length _ _ _ (c .before .if1 .left ∙ e) ∙ passed-length cs _ _ (c .if2 .left ∙ e)
 
 -- whether a node has too many edges before the call, and after it
-over-before : (c : tie.After-any-among) → let s = start (bytes c) in c .any-among .result ≡ tooMany (edge (now (s .args .edges))) (s .args .n) everyone
-over-before c = let s = start (bytes c) in over-by (now (s .args .edges)) (s .args .n) (s .pre .0 .few) (s .pre .1) (c .any-among .ensures)
+over-before : (c : tie.After-any-among) → let s = start (passed c .before .before) in c .any-among .result ≡ tooMany (edge (now (s .args .edges))) (s .args .n) everyone
+over-before c =
+    let s = start (passed c .before .before) in
+    over-by (now (s .args .edges)) (s .args .n) (s .pre .few) (c .before .before .degrees-of .ensures) (c .any-among .ensures)
 
-over-then : (c : tie.After-any-among2) → let s = start (bytes (before c)) in
+over-then : (c : tie.After-any-among2) → let s = start (passed (before c) .before .before) in
     c .any-among2 .result ≡ tooMany (merged (edge (now (s .args .edges))) (edge (now (s .args .theirs))) (edge (now (s .args .base)))) (s .args .n) everyone
 over-then c =
-    let s = start (bytes (before c)) in
-    over-after (now (s .args .edges)) (now (s .args .theirs)) (now (s .args .base)) (s .args .n) (s .pre .0)
+    let s = start (passed (before c) .before .before) in
+    over-after (now (s .args .edges)) (now (s .args .theirs)) (now (s .args .base)) (s .args .n) (s .pre)
     (c .before .before .corrected .ensures) (c .any-among2 .ensures)
 
 returns : tie.Need-returns
@@ -52,24 +54,24 @@ returns-2 c =
     sym (passed-length _ _ _ (c .before .if1 .left ∙ e) ∙ refused-length _ _ _ (λ q. c .if2 .taken (q ∙ sym e)))
 
 returns-3 : tie.Need-returns-3
-returns-3 c = sym (fitted (c .before .before .before) _ ∙ refused-before _ _ _ _ (sym (over-before (c .before)) ∙ c .if3 .taken))
+returns-3 c = sym (fitted (passed (c .before)) _ ∙ refused-before _ _ _ _ (sym (over-before (c .before)) ∙ c .if3 .taken))
 
 -- 11 passes
-uncrowded : (c : tie.After-any-among2) → let s = start (bytes (before c)) in tooMany (edge (now (s .args .edges))) (s .args .n) everyone ≡ false
+uncrowded : (c : tie.After-any-among2) → let s = start (passed (before c) .before .before) in tooMany (edge (now (s .args .edges))) (s .args .n) everyone ≡ false
 uncrowded c = sym (over-before (before c)) ∙ c .before .before .before .if3 .left
 
 returns-4 : tie.Need-returns-4
 returns-4 c =
-    sym (fitted (before (c .before) .before .before) _ ∙ passed-before _ _ _ _ (uncrowded (c .before))
+    sym (fitted (passed (before (c .before))) _ ∙ passed-before _ _ _ _ (uncrowded (c .before))
     ∙ refused-after [] _ _ _ (sym (over-then (c .before)) ∙ c .if4 .taken))
 
 returns-5 : tie.Need-returns-5
 returns-5 c =
-    sym (fitted (before (c .before) .before .before) _ ∙ passed-before _ _ _ _ (uncrowded (c .before))
+    sym (fitted (passed (before (c .before))) _ ∙ passed-before _ _ _ _ (uncrowded (c .before))
     ∙ passed-after [] _ _ _ (sym (over-then (c .before)) ∙ c .if4 .left) ∙ refusal-none)
 
 pub reconcile-refusal-spec : {M : Type 1} → statement M
 reconcile-refusal-spec =
     tie.close
-    (tie.spec (λ c κs. search needs) returns returns-2 (λ c. search needs) (λ c κs. search needs) returns-3 (λ c κs. search needs)
+    (tie.spec (λ c κs. search needs) returns returns-2 (λ c κs. search needs) (λ c. search needs) (λ c κs. search needs) returns-3 (λ c κs. search needs)
     (λ c. search needs) (λ c κs. search needs) returns-4 returns-5)

@@ -1,69 +1,12 @@
-//! The description's cases that the proofs leave to a run, each by its name and on every call that has the thing tested.
+//! The refusal numbers of the description's cases.
 
+use super::{links, Board};
 use crate::calls::Calls;
-use crate::memory::{Call, Kind, Memory, KINDS};
-use crate::plain::packing::{edge_bytes, mark_bytes, pair_index, put_bit};
-
-const LISTS: [Kind; 2] = [Kind::List, Kind::ListEntries];
-
-/// A board of n posts, with all that a call can be lent: of the lengths that n requires, one entry, and no links anywhere.
-struct Board<'a> {
-    version: &'a dyn Calls,
-    n: usize,
-    lent: Memory,
-}
-
-impl<'a> Board<'a> {
-    fn new(version: &'a dyn Calls, n: usize) -> Board<'a> {
-        let links = vec![0; edge_bytes(n)];
-        let lent = Memory {
-            figures: vec![0; 8 * n],
-            marks: vec![0; mark_bytes(n)],
-            snapshot: sheet(n, &links),
-            theirs: links.clone(),
-            base: links.clone(),
-            edges: links,
-            entries: vec![0; 2],
-            scratch: vec![0; n],
-        };
-        Board { version, n, lent }
-    }
-
-    /// The refusal of a call, 0 for acceptance.
-    fn call(&mut self, kind: Kind, a: usize, b: usize) -> u64 {
-        let call = Call { kind, n: self.n as u64, a: a as u64, b: b as u64 };
-        kind.refusal(self.lent.run(self.version, call))
-    }
-
-    /// The refusal of a load of a sheet with these links.
-    fn load(&mut self, links: &[u8]) -> u64 {
-        self.lent.snapshot = sheet(self.n, links);
-        self.call(Kind::Load, 0, 0)
-    }
-
-    /// The refusal of a reconcile in which theirs has these links and the original has none.
-    fn reconcile(&mut self, theirs: Vec<u8>) -> u64 {
-        self.lent.theirs = theirs;
-        self.call(Kind::Reconcile, 0, 0)
-    }
-
-    /// The refusals of both lists, of k entries.
-    fn lists(&mut self, k: usize) -> Vec<u64> {
-        self.lent.entries = vec![0; 2 * k];
-        LISTS.map(|kind| self.call(kind, 0, 0)).to_vec()
-    }
-}
-
-/// The sheet of a board.
-fn sheet(n: usize, links: &[u8]) -> Vec<u8> {
-    [&[(n - 1) as u8], links].concat()
-}
+use crate::memory::{Kind, KINDS};
 
 /// Links of post 0 to each of the others, on a board of 42 posts.
 fn star(others: impl Iterator<Item = usize>) -> Vec<u8> {
-    let mut links = vec![0; edge_bytes(42)];
-    others.for_each(|q| put_bit(&mut links, pair_index(0, q), true));
-    links
+    links(42, &others.map(|q| (0, q)).collect::<Vec<_>>())
 }
 
 /// A board of 42 posts whose post 0 has its 40 links.
@@ -85,9 +28,9 @@ fn lists_of(version: &dyn Calls, k: fn(usize) -> usize) -> Vec<u64> {
 }
 
 /// A case's name, the number that is due, and what the calls answer on a version.
-type Case = (&'static str, u64, fn(&dyn Calls) -> Vec<u64>);
+pub type Case = (&'static str, u64, fn(&dyn Calls) -> Vec<u64>);
 
-const CASES: [Case; 17] = [
+pub const CASES: [Case; 17] = [
     ("40 links are accepted by add", 0, |version| {
         let mut board = Board::new(version, 42);
         (1..=40).map(|q| board.call(Kind::Add, 0, q)).collect()
@@ -131,15 +74,3 @@ const CASES: [Case; 17] = [
         vec![Board::new(version, 4).call(Kind::Score, 4, 0)]
     }),
 ];
-
-/// Runs every case on a version and prints its name.
-pub fn run(version: &dyn Calls) -> Result<(), String> {
-    for (name, due, case) in CASES {
-        let found = case(version);
-        if found.iter().any(|&number| number != due) {
-            return Err(format!("case `{name}` on {}: answers {found:?}, due {due} each", version.name()));
-        }
-        println!("case on {}: {name}: ok", version.name());
-    }
-    Ok(())
-}

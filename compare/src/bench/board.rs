@@ -1,0 +1,150 @@
+//! A board that owns all that a call is lent.
+
+use crate::calls::{Calls, Entry};
+use crate::plain::packing::{bit, edge_bytes, mark_bytes, pair_index, put_bit};
+use crate::rng::Rng;
+use crate::tuned::Tuned;
+
+/// A state that owns its buffers, the figures in both forms.
+#[derive(Clone)]
+pub struct Board {
+    pub n: usize,
+    pub edges: Vec<u8>,
+    pub bytes: Vec<u8>,
+    pub figures: Vec<u64>,
+    pub marks: Vec<u8>,
+    pub snapshot: Vec<u8>,
+    pub theirs: Vec<u8>,
+    pub entries: Vec<u64>,
+    pub records: Vec<Entry>,
+    pub scratch: Vec<u8>,
+    /// The pair that an edit names, or the node that is scored.
+    pub a: u64,
+    pub b: u64,
+}
+
+impl Board {
+    /// A random board of n nodes with `links` edges at nearly every node, loaded: all open.
+    pub fn random(rng: &mut Rng, n: usize, links: usize) -> Board {
+        let mut pairs = pairs(n);
+        rng.shuffle(&mut pairs);
+        Board::of(n, links, pairs)
+    }
+
+    /// Rows of seats, two or more, loaded: blocks of `links` - 1 consecutive nodes, every two nodes of a block joined,
+    /// and random edges between neighbouring blocks, one or two at about a quarter of the nodes.
+    pub fn clustered(rng: &mut Rng, n: usize, links: usize) -> Board {
+        let size = links - 1;
+        let mut joined = pairs(n);
+        joined.retain(|&(a, b)| a / size == b / size);
+        let last = (n - 1) / size * size;
+        let mut between = vec![0; n];
+        for _ in 0..n / 8 {
+            let a = rng.below(last);
+            let next = (a / size + 1) * size;
+            let b = rng.between(next, (next + size).min(n) - 1);
+            if between[a] < 2 && between[b] < 2 {
+                joined.push((a, b));
+                between[a] += 1;
+                between[b] += 1;
+            }
+        }
+        Board::of(n, links, joined)
+    }
+
+    /// The board with those of the pairs, taken in order, that leave each node within `links` edges, loaded: all open.
+    fn of(n: usize, links: usize, pairs: Vec<(usize, usize)>) -> Board {
+        let mut snapshot = vec![0; 1 + edge_bytes(n)];
+        snapshot[0] = (n - 1) as u8;
+        let mut degrees = vec![0; n];
+        for (a, b) in pairs {
+            let absent = !bit(&snapshot[1..], pair_index(a, b));
+            if absent && degrees[a] < links && degrees[b] < links {
+                put_bit(&mut snapshot[1..], pair_index(a, b), true);
+                degrees[a] += 1;
+                degrees[b] += 1;
+            }
+        }
+        let mut board = Board {
+            n,
+            edges: vec![0; edge_bytes(n)],
+            bytes: vec![0; 8 * n],
+            figures: vec![0; n],
+            marks: vec![0; mark_bytes(n)],
+            theirs: Vec::new(),
+            entries: vec![0; 16],
+            records: vec![Entry::default(); 8],
+            scratch: vec![0; n],
+            snapshot,
+            a: 0,
+            b: 0,
+        };
+        board.load(&Tuned);
+        board.theirs = board.edges.clone();
+        board.pour();
+        board
+    }
+
+    /// The figures as numbers become the figures as bytes.
+    pub fn pour(&mut self) {
+        self.bytes = self.figures.iter().flat_map(|figure| figure.to_le_bytes()).collect();
+    }
+
+    /// The figures as bytes become the figures as numbers.
+    pub fn pour_back(&mut self) {
+        self.figures = self
+            .bytes
+            .chunks_exact(8)
+            .map(|bytes| u64::from_le_bytes(bytes.try_into().expect("eight bytes")))
+            .collect();
+    }
+
+    /// The pairs that are joined, or those that are not.
+    pub fn pairs(&self, joined: bool) -> Vec<(usize, usize)> {
+        let mut pairs = pairs(self.n);
+        pairs.retain(|&(a, b)| bit(&self.edges, pair_index(a, b)) == joined);
+        pairs
+    }
+
+    pub fn clear(&mut self, version: &dyn Calls) -> u64 {
+        version.clear(self.n as u64, &mut self.edges, &mut self.bytes, &mut self.marks)
+    }
+
+    pub fn load(&mut self, version: &dyn Calls) -> u64 {
+        version.load(&mut self.edges, &mut self.figures, &mut self.marks, &self.snapshot)
+    }
+
+    pub fn write(&mut self, version: &dyn Calls) -> u64 {
+        version.write(&mut self.edges, &mut self.figures, &mut self.marks, &mut self.snapshot)
+    }
+
+    pub fn score(&mut self, version: &dyn Calls) -> u64 {
+        version.score(self.n as u64, &self.edges, self.a)
+    }
+
+    pub fn add(&mut self, version: &dyn Calls) -> u64 {
+        version.add(self.n as u64, &mut self.edges, &mut self.bytes, &mut self.marks, self.a, self.b)
+    }
+
+    pub fn remove(&mut self, version: &dyn Calls) -> u64 {
+        version.remove(self.n as u64, &mut self.edges, &mut self.bytes, &mut self.marks, self.a, self.b)
+    }
+
+    pub fn reconcile(&mut self, version: &dyn Calls) -> u64 {
+        // the base is the board itself as the snapshot holds it
+        version.reconcile(&mut self.edges, &mut self.figures, &mut self.marks, &self.theirs, &self.snapshot[1..])
+    }
+
+    pub fn list(&mut self, version: &dyn Calls) -> u64 {
+        version.list(&mut self.edges, &mut self.figures, &mut self.marks, &mut self.entries, &mut self.scratch)
+    }
+
+    pub fn list_entries(&mut self, version: &dyn Calls) -> u64 {
+        version.list_entries(&mut self.edges, &mut self.figures, &mut self.marks, &mut self.records, &mut self.scratch)
+    }
+}
+
+/// The pairs a < b of n nodes, in bit order.
+fn pairs(n: usize) -> Vec<(usize, usize)> {
+    (0..n).flat_map(|b| (0..b).map(move |a| (a, b))).collect()
+}

@@ -1,0 +1,86 @@
+//! What the benchmark times: each call on its boards.
+
+use super::board::Board;
+use super::time::BATCH;
+use crate::calls::{Calls, Entry};
+use crate::plain::packing::{pair_index, put_bit};
+use crate::rng::Rng;
+use crate::tuned::Tuned;
+
+/// The boards of one line of the table, and the call that is timed on each of them.
+pub struct Case {
+    pub name: &'static str,
+    pub boards: Vec<Board>,
+    pub call: fn(&mut Board, &dyn Calls) -> u64,
+}
+
+/// Every call on one board.
+pub fn cases(rng: &mut Rng, board: Board) -> Vec<Case> {
+    let n = board.n;
+    let same = |board: &Board| vec![board.clone(); BATCH];
+    let mut joined = board.pairs(true);
+    rng.shuffle(&mut joined);
+
+    let scored = (0..BATCH).map(|i| Board { a: (i * n / BATCH) as u64, ..board.clone() }).collect();
+    let present: Vec<Board> = (0..BATCH)
+        .map(|i| {
+            let (a, b) = joined[i % joined.len()];
+            Board { a: a as u64, b: b as u64, ..board.clone() }
+        })
+        .collect();
+    let mut absent = present.clone();
+    for board in &mut absent {
+        board.remove(&Tuned);
+    }
+    let merged = merged(&board, &joined);
+    let settled = settled(&board);
+    let edited = edited(&settled, joined[0]);
+    let all = Board { entries: vec![0; 2 * n], records: vec![Entry::default(); n], ..board.clone() };
+    vec![
+        Case { name: "clear", boards: same(&board), call: Board::clear },
+        Case { name: "load", boards: same(&board), call: Board::load },
+        Case { name: "write", boards: same(&board), call: Board::write },
+        Case { name: "score", boards: scored, call: Board::score },
+        Case { name: "add", boards: absent, call: Board::add },
+        Case { name: "remove", boards: present, call: Board::remove },
+        Case { name: "reconcile 8 pairs", boards: same(&merged), call: Board::reconcile },
+        Case { name: "list 8, all open", boards: same(&board), call: Board::list },
+        Case { name: "list n, all open", boards: same(&all), call: Board::list },
+        Case { name: "list 8, settled", boards: same(&settled), call: Board::list },
+        Case { name: "list 8, one edit", boards: same(&edited), call: Board::list },
+        Case { name: "records 8, all open", boards: same(&board), call: Board::list_entries },
+        Case { name: "records n, all open", boards: same(&all), call: Board::list_entries },
+        Case { name: "records 8, settled", boards: same(&settled), call: Board::list_entries },
+    ]
+}
+
+/// The board to reconcile: theirs lacks four edges that mine and the base have, and has four that they lack, so there
+/// are four removals and four additions.
+fn merged(board: &Board, joined: &[(usize, usize)]) -> Board {
+    let mut merged = board.clone();
+    for &(a, b) in joined.iter().take(4) {
+        put_bit(&mut merged.theirs, pair_index(a, b), false);
+    }
+    for &(a, b) in joined.iter().rev().take(4) {
+        put_bit(&mut merged.snapshot[1..], pair_index(a, b), false);
+        put_bit(&mut merged.edges, pair_index(a, b), false);
+    }
+    merged
+}
+
+/// The board with every node worked out.
+fn settled(board: &Board) -> Board {
+    let mut settled = Board { entries: vec![0; 2 * board.n], ..board.clone() };
+    settled.list(&Tuned);
+    settled.entries = vec![0; 16];
+    settled.pour();
+    settled
+}
+
+/// The board after the removal of an edge.
+fn edited(board: &Board, (a, b): (usize, usize)) -> Board {
+    let mut edited = Board { a: a as u64, b: b as u64, ..board.clone() };
+    edited.remove(&Tuned);
+    edited.pour_back();
+    edited
+}

@@ -1,0 +1,99 @@
+//! Cases by name, each on every call that has the thing tested: the description's that the proofs leave to a run,
+//! and the figures of small boards.
+
+mod figures;
+mod refusals;
+
+use crate::calls::Calls;
+use crate::memory::{Call, Kind, Memory};
+use crate::plain::packing::{edge_bytes, mark_bytes, pair_index, put_bit};
+
+/// A board of n posts, with all that a call can be lent: of the lengths that n requires, one entry, and no links anywhere.
+struct Board<'a> {
+    version: &'a dyn Calls,
+    n: usize,
+    lent: Memory,
+}
+
+impl<'a> Board<'a> {
+    fn new(version: &'a dyn Calls, n: usize) -> Board<'a> {
+        let links = vec![0; edge_bytes(n)];
+        let lent = Memory {
+            figures: vec![0; 8 * n],
+            marks: vec![0; mark_bytes(n)],
+            snapshot: sheet(n, &links),
+            theirs: links.clone(),
+            base: links.clone(),
+            edges: links,
+            entries: vec![0; 2],
+            scratch: vec![0; n],
+        };
+        Board { version, n, lent }
+    }
+
+    /// The refusal of a call, 0 for acceptance.
+    fn call(&mut self, kind: Kind, a: usize, b: usize) -> u64 {
+        let call = Call { kind, n: self.n as u64, a: a as u64, b: b as u64 };
+        kind.refusal(self.lent.run(self.version, call))
+    }
+
+    /// The refusal of a load of a sheet with these links.
+    fn load(&mut self, links: &[u8]) -> u64 {
+        self.lent.snapshot = sheet(self.n, links);
+        self.call(Kind::Load, 0, 0)
+    }
+
+    /// The refusal of a reconcile in which theirs has these links.
+    fn reconcile(&mut self, theirs: Vec<u8>) -> u64 {
+        self.lent.theirs = theirs;
+        self.call(Kind::Reconcile, 0, 0)
+    }
+
+    /// The board after a call.
+    fn then(mut self, kind: Kind, a: usize, b: usize) -> Board<'a> {
+        self.call(kind, a, b);
+        self
+    }
+
+    fn figures(&self) -> Vec<u64> {
+        self.lent.figures.chunks(8).map(|bytes| u64::from_le_bytes(bytes.try_into().expect("eight bytes"))).collect()
+    }
+
+    /// The refusals of both lists, of k entries.
+    fn lists(&mut self, k: usize) -> Vec<u64> {
+        self.lent.entries = vec![0; 2 * k];
+        [Kind::List, Kind::ListEntries].map(|kind| self.call(kind, 0, 0)).to_vec()
+    }
+}
+
+/// The sheet of a board.
+fn sheet(n: usize, links: &[u8]) -> Vec<u8> {
+    [&[(n - 1) as u8], links].concat()
+}
+
+/// The links of a board.
+fn links(n: usize, pairs: &[(usize, usize)]) -> Vec<u8> {
+    let mut links = vec![0; edge_bytes(n)];
+    pairs.iter().for_each(|&(a, b)| put_bit(&mut links, pair_index(a, b), true));
+    links
+}
+
+/// Runs every case on a version and prints its name.
+pub fn run(version: &dyn Calls) -> Result<(), String> {
+    for (name, due, case) in refusals::CASES {
+        let found = case(version);
+        if found.iter().any(|&number| number != due) {
+            return Err(format!("case `{name}` on {}: answers {found:?}, due {due} each", version.name()));
+        }
+        println!("case on {}: {name}: ok", version.name());
+    }
+    for (name, due, marks, case) in figures::CASES {
+        let board = case(version);
+        let found = (board.figures(), board.lent.marks[0]);
+        if found != (due.to_vec(), marks) {
+            return Err(format!("case `{name}` on {}: {found:?}, due {due:?} and {marks}", version.name()));
+        }
+        println!("case on {}: {name}: ok", version.name());
+    }
+    Ok(())
+}
