@@ -1,5 +1,6 @@
-//! Random boards, calls and damage.
+//! Random boards and calls.
 
+use crate::crowd::crowd_one;
 use crate::memory::{Call, Kind, Memory};
 use crate::plain::graph::Graph;
 use crate::plain::limits::{MAX_DEGREE, UNIT};
@@ -14,8 +15,8 @@ enum Fill {
     Edges(usize),
     /// As many as the limit lets through.
     Full,
-    /// A few nodes above the limit, where there are enough nodes.
-    Crowded,
+    /// About this many edges a node, and one node above the limit, where there are enough nodes.
+    Crowded(usize),
     /// Any bytes.
     Noise,
 }
@@ -38,7 +39,7 @@ fn fill(rng: &mut Rng) -> Fill {
         5..=9 => Fill::Edges(rng.between(5, 20)),
         10..=12 => Fill::Edges(rng.between(21, MAX_DEGREE - 1)),
         13..=15 => Fill::Full,
-        16..=17 => Fill::Crowded,
+        16..=17 => Fill::Crowded(rng.between(1, MAX_DEGREE)),
         _ => Fill::Noise,
     }
 }
@@ -49,8 +50,8 @@ fn edges(rng: &mut Rng, n: usize, fill: Fill) -> Vec<u8> {
     let wanted = match fill {
         Fill::None => return bytes,
         Fill::Noise => return rng.bytes(edge_bytes(n)),
-        Fill::Edges(degree) => n * degree / 2,
-        Fill::Full | Fill::Crowded => usize::MAX,
+        Fill::Edges(degree) | Fill::Crowded(degree) => n * degree / 2,
+        Fill::Full => usize::MAX,
     };
     let mut pairs: Vec<(usize, usize)> = (0..n).flat_map(|b| (0..b).map(move |a| (a, b))).collect();
     rng.shuffle(&mut pairs);
@@ -64,16 +65,13 @@ fn edges(rng: &mut Rng, n: usize, fill: Fill) -> Vec<u8> {
             placed += 1;
         }
     }
-    if matches!(fill, Fill::Crowded) && n > 1 {
-        let hub = rng.below(n);
-        for q in (0..n).filter(|&q| q != hub) {
-            put_bit(&mut bytes, pair_index(hub, q), true);
-        }
+    if matches!(fill, Fill::Crowded(_)) {
+        crowd_one(rng, n, &mut bytes);
     }
     bytes
 }
 
-fn random_edges(rng: &mut Rng, n: usize) -> Vec<u8> {
+pub fn random_edges(rng: &mut Rng, n: usize) -> Vec<u8> {
     let fill = fill(rng);
     edges(rng, n, fill)
 }
@@ -158,7 +156,7 @@ pub fn state(rng: &mut Rng, n: usize) -> Memory {
 
 /// The state itself is altered behind the calls' back: edges, figures or marks.
 pub fn corrupt(rng: &mut Rng, n: usize, memory: &mut Memory) {
-    match rng.below(5) {
+    match rng.below(6) {
         0 if n > 1 => {
             for _ in 0..rng.between(1, 8) {
                 let index = rng.below(pair_count(n));
@@ -168,6 +166,7 @@ pub fn corrupt(rng: &mut Rng, n: usize, memory: &mut Memory) {
         }
         1 => memory.marks = rng.bytes(mark_bytes(n)),
         2 => set_spare(rng, &mut memory.edges, pair_count(n)),
+        3 => crowd_one(rng, n, &mut memory.edges),
         _ => {
             let p = rng.below(n);
             let figure = match rng.below(3) {
@@ -220,13 +219,15 @@ fn varied(rng: &mut Rng, n: usize, edges: &[u8], most: usize) -> Vec<u8> {
 pub fn next_call(rng: &mut Rng, n: usize, memory: &mut Memory) -> Call {
     let kind = match rng.below(100) {
         0..=1 => Kind::Clear,
-        2..=6 => Kind::Load,
-        7..=11 => Kind::Write,
-        12..=24 => Kind::Score,
-        25..=54 => Kind::Add,
-        55..=74 => Kind::Remove,
-        75..=82 => Kind::Reconcile,
-        83..=91 => Kind::List,
+        2..=5 => Kind::Load,
+        6..=9 => Kind::Write,
+        10..=19 => Kind::Score,
+        20..=24 => Kind::PreviewAdd,
+        25..=52 => Kind::Add,
+        53..=57 => Kind::PreviewRemove,
+        58..=76 => Kind::Remove,
+        77..=83 => Kind::Reconcile,
+        84..=91 => Kind::List,
         _ => Kind::ListEntries,
     };
     call_of_kind(rng, n, memory, kind)
@@ -246,15 +247,38 @@ fn bring_theirs(rng: &mut Rng, n: usize, memory: &mut Memory) {
     }
 }
 
+/// The entries and the scratch of a list.
+fn bring_entries(rng: &mut Rng, n: usize, memory: &mut Memory) {
+    let k = match rng.below(10) {
+        0 => n,
+        1..=3 => rng.between(1, n),
+        _ => rng.between(1, n.min(6)),
+    };
+    let odd = usize::from(rng.chance(5));
+    memory.entries = (0..2 * k + odd).map(|_| rng.next()).collect();
+    let more = rng.below(4);
+    memory.scratch = rng.bytes(n + more);
+}
+
+/// The nodes of an edit: mostly a joined pair to remove, an unjoined one to add.
+fn edited_pair(rng: &mut Rng, n: usize, edges: &[u8], removes: bool) -> (usize, usize) {
+    let joined = removes == rng.chance(94);
+    pair(rng, n, edges, joined)
+}
+
 /// A call of this kind that is mostly accepted.
 pub fn call_of_kind(rng: &mut Rng, n: usize, memory: &mut Memory, kind: Kind) -> Call {
     let mut call = Call { kind, n: n as u64, a: 0, b: 0 };
     match kind {
         Kind::Clear => {}
         Kind::Score => call.a = rng.below(n) as u64,
+        Kind::PreviewAdd | Kind::PreviewRemove => {
+            let (a, b) = edited_pair(rng, n, &memory.edges, kind == Kind::PreviewRemove);
+            (call.a, call.b) = (a as u64, b as u64);
+            memory.changes = (0..n).map(|_| rng.next() as i64).collect();
+        }
         Kind::Add | Kind::Remove => {
-            let joined = (kind == Kind::Remove) == rng.chance(94);
-            let (a, b) = pair(rng, n, &memory.edges, joined);
+            let (a, b) = edited_pair(rng, n, &memory.edges, kind == Kind::Remove);
             (call.a, call.b) = (a as u64, b as u64);
             if rng.chance(20) {
                 approach(rng, n, memory, |graph| graph.common(a, b));
@@ -270,110 +294,7 @@ pub fn call_of_kind(rng: &mut Rng, n: usize, memory: &mut Memory, kind: Kind) ->
         }
         Kind::Write => memory.snapshot = rng.bytes(1 + edge_bytes(n)),
         Kind::Reconcile => bring_theirs(rng, n, memory),
-        Kind::List | Kind::ListEntries => {
-            let k = match rng.below(10) {
-                0 => n,
-                1..=3 => rng.between(1, n),
-                _ => rng.between(1, n.min(6)),
-            };
-            let odd = usize::from(rng.chance(5));
-            memory.entries = (0..2 * k + odd).map(|_| rng.next()).collect();
-            let more = rng.below(4);
-            memory.scratch = rng.bytes(n + more);
-        }
+        Kind::List | Kind::ListEntries => bring_entries(rng, n, memory),
     }
     call
-}
-
-/// Another length than the right one.
-fn wrong_length(rng: &mut Rng, right: usize) -> usize {
-    match rng.below(6) {
-        0 => 0,
-        1 => right + 1,
-        2 => right.saturating_sub(1),
-        3 => 2 * right + 1,
-        4 => right + rng.below(300),
-        _ => rng.below(right + 2),
-    }
-}
-
-fn resize(rng: &mut Rng, bytes: &mut Vec<u8>) {
-    let length = wrong_length(rng, bytes.len());
-    let fresh = rng.bytes(length);
-    let kept = bytes.len().min(length);
-    bytes.truncate(length);
-    bytes.extend(&fresh[kept..]);
-}
-
-/// What can go wrong with what a call is given.
-#[derive(Clone, Copy)]
-enum Damage {
-    Edges,
-    Marks,
-    Figures,
-    Scratch,
-    Snapshot,
-    SnapshotOfOther,
-    SnapshotFirst,
-    Theirs,
-    Base,
-    Entries,
-    N,
-    A,
-    B,
-    Same,
-    OtherBoard,
-}
-
-/// One thing that the call is given goes wrong.
-pub fn damage(rng: &mut Rng, n: usize, memory: &mut Memory, call: &mut Call) {
-    use Damage::*;
-    const NUMBERS: [u64; 8] = [0, 1, 255, 256, 257, 1 << 32, u64::MAX - 1, u64::MAX];
-    let far = [n as u64, n as u64 + 1, 256, 1 << 32, u64::MAX];
-    let own: &[Damage] = match call.kind {
-        Kind::Clear => &[N],
-        Kind::Score => &[N, A],
-        Kind::Add | Kind::Remove => &[N, A, B, Same],
-        Kind::Load => &[Snapshot, SnapshotOfOther, SnapshotFirst],
-        Kind::Write => &[Snapshot],
-        Kind::Reconcile => &[Theirs, Base],
-        Kind::List | Kind::ListEntries => &[Scratch, Entries],
-    };
-    let common = [Edges, Marks, Figures, OtherBoard];
-    let chosen = if rng.chance(60) { rng.pick(own) } else { rng.pick(&common) };
-    match chosen {
-        Edges => resize(rng, &mut memory.edges),
-        Marks => resize(rng, &mut memory.marks),
-        Figures => resize(rng, &mut memory.figures),
-        Scratch => resize(rng, &mut memory.scratch),
-        Snapshot => resize(rng, &mut memory.snapshot),
-        Theirs => resize(rng, &mut memory.theirs),
-        Base => resize(rng, &mut memory.base),
-        Entries => {
-            let length = wrong_length(rng, memory.entries.len());
-            memory.entries.resize(length, 7);
-        }
-        N => call.n = rng.pick(&NUMBERS),
-        A => call.a = rng.pick(&far),
-        B => call.b = rng.pick(&far),
-        Same => call.b = call.a,
-        SnapshotFirst => {
-            if let Some(first) = memory.snapshot.first_mut() {
-                *first = rng.next() as u8;
-            }
-        }
-        SnapshotOfOther => {
-            let other = node_count(rng);
-            memory.snapshot = vec![(other - 1) as u8];
-            memory.snapshot.extend(random_edges(rng, other));
-        }
-        OtherBoard => {
-            // another n altogether, 0 and 257 among them, with every length as it requires
-            let other = rng.pick(&[0, 1, 2, n + 1, n.saturating_sub(1), 257, 300]);
-            call.n = other as u64;
-            memory.figures = rng.bytes(8 * other);
-            memory.marks = rng.bytes(mark_bytes(other));
-            memory.edges = rng.bytes(edge_bytes(other));
-        }
-    }
 }

@@ -3,11 +3,14 @@
 
 pub mod bench;
 pub mod calls;
+mod crowd;
+mod damage;
 pub mod ffi;
 mod generate;
 mod memory;
 pub mod named;
 pub mod plain;
+mod preview_check;
 mod rng;
 pub mod run;
 pub mod scripts;

@@ -9,19 +9,23 @@ pub enum Kind {
     Load,
     Write,
     Score,
+    PreviewAdd,
     Add,
+    PreviewRemove,
     Remove,
     Reconcile,
     List,
     ListEntries,
 }
 
-pub const KINDS: [Kind; 9] = [
+pub const KINDS: [Kind; 11] = [
     Kind::Clear,
     Kind::Load,
     Kind::Write,
     Kind::Score,
+    Kind::PreviewAdd,
     Kind::Add,
+    Kind::PreviewRemove,
     Kind::Remove,
     Kind::Reconcile,
     Kind::List,
@@ -43,7 +47,9 @@ impl fmt::Display for Call {
         match kind {
             Kind::Clear => write!(f, "clear, n = {n}"),
             Kind::Score => write!(f, "score, n = {n}, node {a}"),
+            Kind::PreviewAdd => write!(f, "preview of an add, {a} and {b}"),
             Kind::Add => write!(f, "add, n = {n}, {a} and {b}"),
+            Kind::PreviewRemove => write!(f, "preview of a remove, {a} and {b}"),
             Kind::Remove => write!(f, "remove, n = {n}, {a} and {b}"),
             Kind::Load => write!(f, "load"),
             Kind::Write => write!(f, "write"),
@@ -85,6 +91,7 @@ pub struct Memory {
     /// The plain entries; as records, as many as there are whole ones.
     pub entries: Vec<u64>,
     pub scratch: Vec<u8>,
+    pub changes: Vec<i64>,
 }
 
 impl Memory {
@@ -96,6 +103,12 @@ impl Memory {
             Kind::Add => version.add(n, &mut self.edges, &mut self.figures, &mut self.marks, a, b),
             Kind::Remove => version.remove(n, &mut self.edges, &mut self.figures, &mut self.marks, a, b),
             Kind::Score => version.score(n, &self.edges, a),
+            Kind::PreviewAdd => self.over_numbers(|memory, figures| {
+                version.preview_add(&memory.edges, figures, &memory.marks, &mut memory.changes, a, b)
+            }),
+            Kind::PreviewRemove => self.over_numbers(|memory, figures| {
+                version.preview_remove(&memory.edges, figures, &memory.marks, &mut memory.changes, a, b)
+            }),
             Kind::Load => self.over_numbers(|memory, figures| {
                 version.load(&mut memory.edges, figures, &mut memory.marks, &memory.snapshot)
             }),
@@ -108,22 +121,18 @@ impl Memory {
             Kind::List => self.over_numbers(|memory, figures| {
                 version.list(&mut memory.edges, figures, &mut memory.marks, &mut memory.entries, &mut memory.scratch)
             }),
-            Kind::ListEntries => self.over_numbers(|memory, figures| {
-                let mut entries: Vec<Entry> =
-                    memory.entries.chunks_exact(2).map(|pair| Entry { node: pair[0], figure: pair[1] }).collect();
-                let answer = version.list_entries(
-                    &mut memory.edges,
-                    figures,
-                    &mut memory.marks,
-                    &mut entries,
-                    &mut memory.scratch,
-                );
-                for (pair, entry) in memory.entries.chunks_exact_mut(2).zip(entries) {
-                    pair.copy_from_slice(&[entry.node, entry.figure]);
-                }
-                answer
-            }),
+            Kind::ListEntries => self.over_numbers(|memory, figures| memory.list_entries(version, figures)),
         }
+    }
+
+    fn list_entries(&mut self, version: &dyn Calls, figures: &mut [u64]) -> u64 {
+        let mut entries: Vec<Entry> =
+            self.entries.chunks_exact(2).map(|pair| Entry { node: pair[0], figure: pair[1] }).collect();
+        let answer = version.list_entries(&mut self.edges, figures, &mut self.marks, &mut entries, &mut self.scratch);
+        for (pair, entry) in self.entries.chunks_exact_mut(2).zip(entries) {
+            pair.copy_from_slice(&[entry.node, entry.figure]);
+        }
+        answer
     }
 
     fn over_numbers(&mut self, call: impl FnOnce(&mut Memory, &mut [u64]) -> u64) -> u64 {
@@ -151,13 +160,21 @@ impl Memory {
             ("scratch byte", &self.scratch, &other.scratch),
         ];
         for (name, mine, yours) in bytes {
-            if let Some(place) = (0..mine.len()).find(|&i| mine[i] != yours[i]) {
-                return Some(format!("{name} {place}: {:#04x} against {:#04x}", mine[place], yours[place]));
+            if let Some((place, mine, yours)) = first_difference(mine, yours) {
+                return Some(format!("{name} {place}: {mine:#04x} against {yours:#04x}"));
             }
         }
-        let place = (0..self.entries.len()).find(|&i| self.entries[i] != other.entries[i])?;
-        Some(format!("entries number {place}: {} against {}", self.entries[place], other.entries[place]))
+        if let Some((place, mine, yours)) = first_difference(&self.entries, &other.entries) {
+            return Some(format!("entries number {place}: {mine} against {yours}"));
+        }
+        let (place, mine, yours) = first_difference(&self.changes, &other.changes)?;
+        Some(format!("change {place}: {mine} against {yours}"))
     }
+}
+
+/// Where two buffers of one length differ first, and both values there.
+fn first_difference<T: Copy + PartialEq>(mine: &[T], yours: &[T]) -> Option<(usize, T, T)> {
+    (0..mine.len()).map(|place| (place, mine[place], yours[place])).find(|(_, mine, yours)| mine != yours)
 }
 
 /// The buffers, long ones cut.
@@ -179,6 +196,7 @@ impl fmt::Display for Memory {
             }
             writeln!(f, "{}", if buffer.len() > 64 { " .." } else { "" })?;
         }
-        writeln!(f, "  entries, {} numbers", self.entries.len())
+        writeln!(f, "  entries, {} numbers", self.entries.len())?;
+        writeln!(f, "  changes, {} numbers", self.changes.len())
     }
 }

@@ -1,10 +1,12 @@
-//! The comparison: random histories and single damaged calls, every answer and every lent byte.
+//! The comparison: random histories and single damaged calls, every answer and every lent byte and number.
 
 use crate::calls::Calls;
-use crate::generate::{call_of_kind, corrupt, damage, next_call, node_count, state};
+use crate::damage::damage;
+use crate::generate::{call_of_kind, corrupt, next_call, node_count, state};
 use crate::memory::{Call, Kind, Memory, KINDS};
 use crate::plain::calls::Plain;
 use crate::plain::{derived, paths};
+use crate::preview_check;
 use crate::rng::Rng;
 
 const BY_PATHS: Plain = Plain { name: "plain (paths)", scorer: paths::score };
@@ -16,7 +18,7 @@ pub struct Tally {
     pub calls: usize,
     pub histories: usize,
     pub singles: usize,
-    refusals: [[usize; 13]; 9],
+    refusals: [[usize; 13]; KINDS.len()],
 }
 
 impl Tally {
@@ -28,12 +30,12 @@ impl Tally {
 
     /// A line for each kind of call, a column for each refusal number.
     pub fn table(&self) -> String {
-        let mut out = format!("{:<12}", "refusal");
+        let mut out = format!("{:<14}", "refusal");
         for number in 0..=12 {
             out += &format!("{number:>7}");
         }
         for (kind, row) in KINDS.iter().zip(&self.refusals) {
-            out += &format!("\n{:<12}", format!("{kind:?}").to_lowercase());
+            out += &format!("\n{:<14}", format!("{kind:?}").to_lowercase());
             for &times in row {
                 out += &if times == 0 { format!("{:>7}", ".") } else { format!("{times:>7}") };
             }
@@ -42,15 +44,19 @@ impl Tally {
     }
 }
 
-/// Compares one call of `version` with the plain version. The memory ends as the plain version
-/// leaves it.
+/// Compares one call of `version` with the plain version, and a preview with the edit. The memory ends as the plain
+/// version leaves it.
 fn compare(version: &dyn Calls, call: Call, memory: &mut Memory) -> Result<u64, String> {
     let before = memory.clone();
     let answer = memory.run(&BY_PATHS, call);
-    if matches!(call.kind, Kind::Score | Kind::List | Kind::ListEntries) {
+    let scores = [Kind::Score, Kind::PreviewAdd, Kind::PreviewRemove, Kind::List, Kind::ListEntries];
+    if scores.contains(&call.kind) {
         agree(&BY_FORM, call, &before, memory, answer)?;
     }
     agree(version, call, &before, memory, answer)?;
+    preview_check::check(version, call, &before, memory, answer).map_err(|what| {
+        format!("{} against its own edit and scores, {call}\n  {what}\nbefore the call:\n{before}", version.name())
+    })?;
     Ok(answer)
 }
 
@@ -68,54 +74,69 @@ fn agree(version: &dyn Calls, call: Call, before: &Memory, after: &Memory, answe
     Err(format!("{} against {}, {call}\n  {what}\nbefore the call:\n{before}", version.name(), BY_PATHS.name))
 }
 
+/// The steps of a history; a single call is a history of 1.
+fn length(rng: &mut Rng, single: bool) -> usize {
+    if single {
+        1
+    } else if rng.chance(50) {
+        rng.between(2, 12)
+    } else {
+        rng.between(40, 240)
+    }
+}
+
+/// The call of one step, with what it brings put into the memory.
+fn call_of_step(rng: &mut Rng, n: usize, memory: &mut Memory, step: usize, single: bool) -> Call {
+    let kind = rng.pick(&KINDS);
+    match step {
+        0 if single => call_of_kind(rng, n, memory, kind),
+        0 if rng.chance(45) => call_of_kind(rng, n, memory, Kind::Clear),
+        0 if rng.chance(80) => call_of_kind(rng, n, memory, Kind::Load),
+        _ => next_call(rng, n, memory),
+    }
+}
+
+/// Runs one history from a random state. The error is the difference, after the number of its step.
+fn history(version: &dyn Calls, rng: &mut Rng, tally: &mut Tally) -> Result<(), (usize, String)> {
+    let n = node_count(rng);
+    let mut memory = state(rng, n);
+    let single = rng.chance(97);
+    for step in 0..length(rng, single) {
+        let mut call = call_of_step(rng, n, &mut memory, step, single);
+        // a damaged call is made on a copy, so that the history goes on from whole buffers
+        let damaged = rng.chance(if single { 60 } else { 6 });
+        let mut copy = memory.clone();
+        let lent = if damaged { &mut copy } else { &mut memory };
+        if damaged {
+            for _ in 0..rng.between(1, 2) {
+                damage(rng, n, lent, &mut call);
+            }
+        }
+        let answer = compare(version, call, lent).map_err(|difference| (step + 1, difference))?;
+        tally.count(call.kind, answer);
+        if rng.chance(3) {
+            corrupt(rng, n, &mut memory);
+        }
+    }
+    if single {
+        tally.singles += 1;
+    } else {
+        tally.histories += 1;
+    }
+    Ok(())
+}
+
 /// Runs about `calls` calls from `seed`.
 pub fn run(version: &dyn Calls, seed: u64, calls: usize) -> Result<Tally, String> {
     let mut tally = Tally::default();
     let mut seeds = Rng::new(seed);
     while tally.calls < calls {
         let mut rng = Rng::new(seeds.next());
-        let n = node_count(&mut rng);
-        let mut memory = state(&mut rng, n);
-        let single = rng.chance(97);
-        let steps = if single {
-            1
-        } else if rng.chance(50) {
-            rng.between(2, 12)
-        } else {
-            rng.between(40, 240)
-        };
-        for step in 0..steps {
-            let kind = rng.pick(&KINDS);
-            let mut call = match step {
-                0 if single => call_of_kind(&mut rng, n, &mut memory, kind),
-                0 if rng.chance(45) => call_of_kind(&mut rng, n, &mut memory, Kind::Clear),
-                0 if rng.chance(80) => call_of_kind(&mut rng, n, &mut memory, Kind::Load),
-                _ => next_call(&mut rng, n, &mut memory),
-            };
-            // a damaged call is made on a copy, so that the history goes on from whole buffers
-            let damaged = rng.chance(if single { 60 } else { 6 });
-            let mut copy = memory.clone();
-            let lent = if damaged { &mut copy } else { &mut memory };
-            if damaged {
-                for _ in 0..rng.between(1, 2) {
-                    damage(&mut rng, n, lent, &mut call);
-                }
-            }
-            let answer = compare(version, call, lent).map_err(|difference| {
-                let number = tally.calls + 1;
-                let place = format!("seed {seed}, call {number} (step {} of its history)", step + 1);
-                format!("DIFFERENCE at {place}; seed {seed} with {number} calls shows it again\n  {difference}")
-            })?;
-            tally.count(call.kind, answer);
-            if rng.chance(3) {
-                corrupt(&mut rng, n, &mut memory);
-            }
-        }
-        if single {
-            tally.singles += 1;
-        } else {
-            tally.histories += 1;
-        }
+        history(version, &mut rng, &mut tally).map_err(|(step, difference)| {
+            let number = tally.calls + 1;
+            let place = format!("seed {seed}, call {number} (step {step} of its history)");
+            format!("DIFFERENCE at {place}; seed {seed} with {number} calls shows it again\n  {difference}")
+        })?;
     }
     Ok(tally)
 }

@@ -18,6 +18,7 @@ pub struct Board {
     pub entries: Vec<u64>,
     pub records: Vec<Entry>,
     pub scratch: Vec<u8>,
+    pub changes: Vec<i64>,
     /// The pair that an edit names, or the node that is scored.
     pub a: u64,
     pub b: u64,
@@ -75,6 +76,7 @@ impl Board {
             entries: vec![0; 16],
             records: vec![Entry::default(); 8],
             scratch: vec![0; n],
+            changes: vec![0; n],
             snapshot,
             a: 0,
             b: 0,
@@ -128,6 +130,14 @@ impl Board {
 
     pub fn remove(&mut self, version: &dyn Calls) -> u64 {
         version.remove(self.n as u64, &mut self.edges, &mut self.bytes, &mut self.marks, self.a, self.b)
+    }
+
+    pub fn preview_add(&mut self, version: &dyn Calls) -> u64 {
+        version.preview_add(&self.edges, &self.figures, &self.marks, &mut self.changes, self.a, self.b)
+    }
+
+    pub fn preview_remove(&mut self, version: &dyn Calls) -> u64 {
+        version.preview_remove(&self.edges, &self.figures, &self.marks, &mut self.changes, self.a, self.b)
     }
 
     pub fn reconcile(&mut self, version: &dyn Calls) -> u64 {

@@ -22,16 +22,8 @@ pub fn cases(rng: &mut Rng, board: Board) -> Vec<Case> {
     rng.shuffle(&mut joined);
 
     let scored = (0..BATCH).map(|i| Board { a: (i * n / BATCH) as u64, ..board.clone() }).collect();
-    let present: Vec<Board> = (0..BATCH)
-        .map(|i| {
-            let (a, b) = joined[i % joined.len()];
-            Board { a: a as u64, b: b as u64, ..board.clone() }
-        })
-        .collect();
-    let mut absent = present.clone();
-    for board in &mut absent {
-        board.remove(&Tuned);
-    }
+    let present = present(&board, &joined);
+    let absent = absent(&present);
     let merged = merged(&board, &joined);
     let settled = settled(&board);
     let edited = edited(&settled, joined[0]);
@@ -41,6 +33,8 @@ pub fn cases(rng: &mut Rng, board: Board) -> Vec<Case> {
         Case { name: "load", boards: same(&board), call: Board::load },
         Case { name: "write", boards: same(&board), call: Board::write },
         Case { name: "score", boards: scored, call: Board::score },
+        Case { name: "preview of an add", boards: absent.clone(), call: Board::preview_add },
+        Case { name: "preview of a remove", boards: present.clone(), call: Board::preview_remove },
         Case { name: "add", boards: absent, call: Board::add },
         Case { name: "remove", boards: present, call: Board::remove },
         Case { name: "reconcile 8 pairs", boards: same(&merged), call: Board::reconcile },
@@ -52,6 +46,21 @@ pub fn cases(rng: &mut Rng, board: Board) -> Vec<Case> {
         Case { name: "records n, all open", boards: same(&all), call: Board::list_entries },
         Case { name: "records 8, settled", boards: same(&settled), call: Board::list_entries },
     ]
+}
+
+/// The board with each of the pairs in turn to remove.
+fn present(board: &Board, joined: &[(usize, usize)]) -> Vec<Board> {
+    let pairs = joined.iter().cycle().take(BATCH);
+    pairs.map(|&(a, b)| Board { a: a as u64, b: b as u64, ..board.clone() }).collect()
+}
+
+/// The boards without their pairs, to add these.
+fn absent(present: &[Board]) -> Vec<Board> {
+    let mut absent = present.to_vec();
+    for board in &mut absent {
+        board.remove(&Tuned);
+    }
+    absent
 }
 
 /// The board to reconcile: theirs lacks four edges that mine and the base have, and has four that they lack, so there

@@ -17,6 +17,8 @@ const SIZES: [usize; 3] = [16, 64, 256];
 const LINKS: [usize; 4] = [4, 16, 32, 40];
 /// The sizes and the links of the clustered boards, and of the boards of which the work of a list is counted.
 const DENSE: [(usize, usize); 4] = [(64, 32), (64, 40), (256, 32), (256, 40)];
+/// The calls that are timed on clustered boards too.
+const CLUSTERED: [&str; 5] = ["load", "preview of an add", "preview of a remove", "add", "remove"];
 /// The boards of a size and a number of links depend on it alone.
 const SEED: u64 = 2005;
 
@@ -56,7 +58,7 @@ pub fn run(library: Option<&dyn Calls>) {
     println!("clustered boards: rows of seats, in which the neighbours of a node are mostly linked");
     for (n, links) in DENSE {
         for case in cases_of(Board::clustered, n, links) {
-            if ["load", "add", "remove"].contains(&case.name) {
+            if CLUSTERED.contains(&case.name) {
                 print_line(case.name, n, links, &time(&case, &versions));
             }
         }

@@ -1,7 +1,9 @@
 //! Cases by name, each on every call that has the thing tested: the description's that the proofs leave to a run,
-//! and the figures of small boards.
+//! the figures of small boards, and what previews show and when they are refused.
 
 mod figures;
+mod preview_refusals;
+mod previews;
 mod refusals;
 
 use crate::calls::Calls;
@@ -27,6 +29,7 @@ impl<'a> Board<'a> {
             edges: links,
             entries: vec![0; 2],
             scratch: vec![0; n],
+            changes: vec![0; n],
         };
         Board { version, n, lent }
     }
@@ -95,5 +98,6 @@ pub fn run(version: &dyn Calls) -> Result<(), String> {
         }
         println!("case on {}: {name}: ok", version.name());
     }
-    Ok(())
+    previews::run(version)?;
+    preview_refusals::run(version)
 }

@@ -16,7 +16,8 @@ fn full(version: &dyn Calls) -> Board<'_> {
     board
 }
 
-/// The refusals of every call on a board of n posts. The link that is added is there to be removed.
+/// The refusals of every call on a board of n posts. The link that is added is there to be removed, and neither preview
+/// alters it.
 fn every_call(version: &dyn Calls, n: usize) -> Vec<u64> {
     let mut board = Board::new(version, n);
     KINDS.map(|kind| board.call(kind, 0, 255)).to_vec()

@@ -3,7 +3,7 @@
 use super::refusal::{refuse_if, Refusal};
 use super::score::Scorer;
 use super::state::{check_node_count, State};
-use super::{clear, edit, list, reconcile, score, snapshot};
+use super::{clear, edit, list, preview, reconcile, score, snapshot};
 use crate::calls::{Calls, Entry};
 
 /// The plain version with one of its two ways to score.
@@ -61,6 +61,14 @@ impl Calls for Plain {
 
     fn remove(&self, n: u64, edges: &mut [u8], figures: &mut [u8], marks: &mut [u8], a: u64, b: u64) -> u64 {
         number(over_bytes(n, edges, figures, marks, |state| edit::remove(state, a, b)))
+    }
+
+    fn preview_add(&self, edges: &[u8], figures: &[u64], marks: &[u8], changes: &mut [i64], a: u64, b: u64) -> u64 {
+        number(preview::preview(edges, figures, marks, changes, |copy| edit::add(copy, a, b), self.scorer))
+    }
+
+    fn preview_remove(&self, edges: &[u8], figures: &[u64], marks: &[u8], changes: &mut [i64], a: u64, b: u64) -> u64 {
+        number(preview::preview(edges, figures, marks, changes, |copy| edit::remove(copy, a, b), self.scorer))
     }
 
     fn score(&self, n: u64, edges: &[u8], node: u64) -> u64 {

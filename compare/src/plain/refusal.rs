@@ -4,7 +4,7 @@
 pub enum Refusal {
     /// n is 0 or above 256.
     NodeCount = 1,
-    /// An edges, marks, figures or written-snapshot buffer has another length than n requires.
+    /// An edges, marks, figures, changes or written-snapshot buffer has another length than n requires.
     BufferLength = 2,
     /// The scratch is shorter than n bytes.
     ShortScratch = 3,

@@ -1,6 +1,6 @@
 //! The tuned version behind the C functions' signatures.
 
-use super::{edit, list, merge, score, snapshot};
+use super::{edit, list, merge, preview, score, snapshot};
 use crate::calls::{Calls, Entry};
 
 pub struct Tuned;
@@ -20,6 +20,14 @@ impl Calls for Tuned {
 
     fn remove(&self, n: u64, edges: &mut [u8], figures: &mut [u8], marks: &mut [u8], a: u64, b: u64) -> u64 {
         edit::edit(n, edges, figures, marks, a, b, false)
+    }
+
+    fn preview_add(&self, edges: &[u8], figures: &[u64], marks: &[u8], changes: &mut [i64], a: u64, b: u64) -> u64 {
+        preview::preview(edges, figures, marks, changes, a, b, true)
+    }
+
+    fn preview_remove(&self, edges: &[u8], figures: &[u64], marks: &[u8], changes: &mut [i64], a: u64, b: u64) -> u64 {
+        preview::preview(edges, figures, marks, changes, a, b, false)
     }
 
     fn score(&self, n: u64, edges: &[u8], node: u64) -> u64 {

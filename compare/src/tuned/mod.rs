@@ -6,9 +6,11 @@ mod calls;
 mod edit;
 mod list;
 mod merge;
+mod preview;
 mod refuse;
 mod rows;
 mod score;
 mod snapshot;
+mod touched;
 
 pub use calls::Tuned;

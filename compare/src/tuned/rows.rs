@@ -1,7 +1,5 @@
 //! Rows of the adjacency matrix as sets of 256 bits, most significant first.
 
-use super::refuse::LIMIT;
-
 /// A set of nodes: node a is bit 63 − a mod 64 of word a / 64.
 pub type Row = [u64; 4];
 
@@ -83,9 +81,9 @@ pub fn below(row: &Row, p: usize) -> Row {
     part
 }
 
-/// The nodes of a set of at most `LIMIT`, in order, and their number.
-pub fn members(row: &Row) -> ([usize; LIMIT], usize) {
-    let mut members = [0; LIMIT];
+/// The nodes of a set of at most `N`, in order, and their number.
+pub fn members<const N: usize>(row: &Row) -> ([usize; N], usize) {
+    let mut members = [0; N];
     let mut length = 0;
     each(row, |a| {
         members[length] = a;

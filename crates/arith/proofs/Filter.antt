@@ -1,10 +1,12 @@
 -- What a filter keeps and how many a count counts. Assumes nothing.
-use mathlib.Core.Bool.{_&&_, Bool, cond, false, not, true, true≢false}
+use mathlib.Core.Bool.{_&&_, and-comm, Bool, cond, false, not, true, true≢false}
 use mathlib.Core.List.{_++_, [], List, List·Memᴰ, List·Memᴰ·append-cases, List·Memᴰ·cases-cons, List·Memᴰ·head, List·Memᴰ·not-nil, List·Memᴰ·tail, map, Memᴰ·cast, Memᴰ·of-map, _∷_}
 use mathlib.Core.Logic.{inl, inr, _≢_}
 use mathlib.Core.Path.{ap, fun-ext, refl, sym, _∙_, _≡_}
-use Prim.Native.Nat.{_+_, _<_, suc, _≤_}
+use Prim.Native.Nat.{_+_, _<_, suc, ℕ, _≤_}
 use native.Mathlib.Omega.{arith}
+use borrow.Author.Tests.{eq-eqb, ne-eqb}
+use lib.Dec.{eqb}
 use lib.ListN.{length}
 use Rattle.arith.proofs.Tests.{test}
 use Rattle.arith.specs.Lists.{consIf, count, Distinct, filter, nonEmpty, pairs}
@@ -126,3 +128,21 @@ module _ {A B : Type 0} where
   pub count-map : (f : B → Bool) (F : A → B) (xs : List A) → count f (map F xs) ≡ count (λ x. f (F x)) xs
   count-map f F [] = refl
   count-map f F (x ∷ xs) = elim (test (f (F x))) [ inl e ↦ rw e (ap suc (count-map f F xs)) | inr e ↦ rw e (count-map f F xs) ]
+
+-- the numbers of a list but v
+abbrev pub without : ℕ → List ℕ → List ℕ
+without v xs = filter (λ x. not (eqb x v)) xs
+
+pub without-none : (v : ℕ) (xs : List ℕ) → (List·Memᴰ v xs → ⊥) → without v xs ≡ xs
+without-none v [] out = refl
+without-none v (x ∷ xs) out =
+    rw (ne-eqb x v (λ e. out (List·Memᴰ·head (sym e)))) (ap (λ l. x ∷ l) (without-none v xs (λ m. out (List·Memᴰ·tail m))))
+
+pub without-turned : (u v : ℕ) (xs : List ℕ) → without u (without v xs) ≡ without v (without u xs)
+without-turned u v xs =
+    filter-filter (λ x. not (eqb x u)) (λ x. not (eqb x v)) xs
+    ∙ filter-ext xs (λ x. and-comm (not (eqb x v)) (not (eqb x u)))
+    ∙ sym (filter-filter (λ x. not (eqb x v)) (λ x. not (eqb x u)) xs)
+
+pub mem-without : (v : ℕ) (xs : List ℕ) {x : ℕ} → List·Memᴰ x (without v xs) → List·Memᴰ x xs × (x ≢ v)
+mem-without v xs {x} m = let r = mem-filter (λ x. not (eqb x v)) xs m in (r .0, λ e. true≢false (sym (r .1) ∙ ap not (eq-eqb x v e)))

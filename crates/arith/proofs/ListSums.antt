@@ -1,13 +1,15 @@
 -- Sums over lists. Assumes nothing.
-use mathlib.Core.Bool.{Bool}
-use mathlib.Core.List.{_++_, [], List, List·Memᴰ, List·Memᴰ·cases-cons, List·Memᴰ·head, List·Memᴰ·not-nil, List·Memᴰ·tail, map, _∷_}
+use mathlib.Core.Bool.{Bool, cond}
+use mathlib.Core.List.{_++_, [], List, List·Memᴰ, List·Memᴰ·cases-cons, List·Memᴰ·head, List·Memᴰ·not-nil, List·Memᴰ·tail, map, Memᴰ·cast, _∷_}
 use mathlib.Core.Logic.{inl, inr}
 use mathlib.Core.Path.{ap, refl, sym, _∙_, _≡_}
 use Prim.Native.Nat.{_*_, _+_, _<_, ℕ, _≤_}
 use native.Mathlib.Omega.{arith}
+use borrow.Author.Tests.{ne-eqb}
 use lib.ListN.{length}
-use Rattle.arith.proofs.Tests.{test}
-use Rattle.arith.specs.Lists.{count, sum}
+use Rattle.arith.proofs.Filter.{without, without-none}
+use Rattle.arith.proofs.Tests.{eqb-same, test}
+use Rattle.arith.specs.Lists.{count, Distinct, filter, sum}
 use Rattle.arith.specs.Sums.{bit}
 
 module _ {A : Type 0} where
@@ -46,6 +48,30 @@ sum-map f F (x ∷ xs) = ap (λ s. f (F x) + s) (sum-map f F xs)
 pub count-sum : {A : Type 0} (q : A → Bool) (xs : List A) → count q xs ≡ sum (map (λ x. bit (q x)) xs)
 count-sum q [] = refl
 count-sum q (x ∷ xs) = elim (test (q x)) [ inl e ↦ rw e (omega (arith, count-sum q xs)) | inr e ↦ rw e (omega (arith, count-sum q xs)) ]
+
+-- those that pass a test give what they give, and the others nothing
+pub sum-filter : {A : Type 0} (f : A → ℕ) (q : A → Bool) (xs : List A) → sum (map f (filter q xs)) ≡ sum (map (λ x. cond (q x) (f x) 0) xs)
+sum-filter f q [] = refl
+sum-filter f q (x ∷ xs) = elim (test (q x)) [
+  | inl e ↦ rw e (omega (arith, sum-filter f q xs))
+  | inr e ↦ rw e (omega (arith, sum-filter f q xs))
+]
+
+pub sum-add : {A : Type 0} (f f′ : A → ℕ) (xs : List A) → sum (map (λ x. f x + f′ x) xs) ≡ sum (map f xs) + sum (map f′ xs)
+sum-add f f′ [] = refl
+sum-add f f′ (x ∷ xs) = omega (arith, sum-add f f′ xs)
+
+-- in a list that has v once, v gives what it gives, and the others the rest
+pub sum-cut : (f : ℕ → ℕ) (v : ℕ) (xs : List ℕ) → Distinct xs → List·Memᴰ v xs → sum (map f xs) ≡ f v + sum (map f (without v xs))
+sum-cut f v [] d m = absurd (List·Memᴰ·not-nil m)
+sum-cut f v (x ∷ xs) d m = elim (List·Memᴰ·cases-cons m) [
+  | inl e ↦ rw (← e, eqb-same v, without-none v xs (λ i. d .0 (Memᴰ·cast (sym e) i))) refl
+  | inr i ↦ rw (ne-eqb x v (λ e. d .0 (Memᴰ·cast e i))) (omega (arith, sum-cut f v xs (d .1) i))
+]
+
+pub count-cut : (q : ℕ → Bool) (v : ℕ) (xs : List ℕ) → Distinct xs → List·Memᴰ v xs → count q xs ≡ bit (q v) + count q (without v xs)
+count-cut q v xs d m =
+    count-sum q xs ∙ sum-cut (λ x. bit (q x)) v xs d m ∙ ap (λ s. bit (q v) + s) (sym (count-sum q (without v xs)))
 
 -- where each element gives b at most, and nothing if it fails a test, the sum is at most b for each that passes; and then only is it as much if each gives that
 module _ {A : Type 0} (f : A → ℕ) (b : ℕ) (q : A → Bool) where

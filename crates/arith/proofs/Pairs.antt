@@ -1,16 +1,20 @@
 -- The pairs of a list. Assumes nothing.
-use mathlib.Core.Bool.{Bool, false}
+use mathlib.Core.Bool.{_&&_, Bool, cond, false, not}
 use mathlib.Core.List.{[], List, List·Memᴰ, List·Memᴰ·append-cases, List·Memᴰ·cases-cons, List·Memᴰ·head, List·Memᴰ·not-nil, List·Memᴰ·tail, map, Memᴰ·append-left, Memᴰ·append-right, Memᴰ·cast, Memᴰ·map, Memᴰ·of-map, _∷_}
 use mathlib.Core.Logic.{inl, inr, _≢_, _⊎_}
 use mathlib.Core.Path.{ap, refl, sym, _∙_, _≡_}
 use Prim.Native.Nat.{_*_, _+_, _-_, _<_, suc, zero, ℕ, _≤_}
 use native.Mathlib.Nat.{ne-of-lt}
 use native.Mathlib.Omega.{arith}
+use borrow.Author.Tests.{ne-eqb}
+use lib.Dec.{eqb}
 use lib.ListN.{length, length-append, length-map}
-use Rattle.arith.proofs.Filter.{count-miss-two}
-use Rattle.arith.proofs.Members.{distinct-append, distinct-map, mem-some}
+use Rattle.arith.proofs.Filter.{count-miss-two, filter-in, without, without-none}
+use Rattle.arith.proofs.ListSums.{sum-append, sum-cut, sum-filter, sum-map, sum-same}
+use Rattle.arith.proofs.Members.{distinct-append, distinct-filter, distinct-map, mem-some}
 use Rattle.arith.proofs.Range.{count-range, length-range, mem-up, range-mem, Up, up-distinct}
-use Rattle.arith.specs.Lists.{Distinct, pairs, range}
+use Rattle.arith.proofs.Tests.{eqb-same, test}
+use Rattle.arith.specs.Lists.{Distinct, filter, pairs, range, sum}
 use Rattle.arith.specs.Sums.{countTo}
 
 module _ {A : Type 0} where
@@ -83,3 +87,47 @@ countTo-miss-two f n i j l h e d =
       | inl m ↦ omega (arith, count-miss-two f (range 0 n) m e d, counted, all)
       | inr m ↦ omega (arith, count-miss-two f (range 0 n) m d e, counted, all)
     ]
+
+-- ---- sums over pairs
+
+module _ {A : Type 0} (f : A × A → ℕ) where
+  sum-pairs : (x : A) (xs : List A) → sum (map f (pairs (x ∷ xs))) ≡ sum (map (λ y. f (x, y)) xs) + sum (map f (pairs xs))
+  sum-pairs x xs = sum-append f (map (λ (y : A). (x, y)) xs) (pairs xs) ∙ ap (λ s. s + sum (map f (pairs xs))) (sum-map f (λ (y : A). (x, y)) xs)
+
+-- the pairs of those that pass a test are the pairs of which both pass it
+module _ {A : Type 0} (f : A × A → ℕ) (q : A → Bool) where
+  abbrev kept : A × A → ℕ
+  kept c = cond (q (c .0) && q (c .1)) (f c) 0
+
+  with-first : (x : A) (xs : List A) → sum (map f (pairs (filter q xs))) ≡ sum (map kept (pairs xs))
+      → sum (map f (pairs (filter q (x ∷ xs)))) ≡ sum (map (λ y. kept (x, y)) xs) + sum (map kept (pairs xs))
+  with-first x xs rest = elim (test (q x)) [
+    | inl e ↦ rw e (omega (arith, sum-pairs f x (filter q xs), sum-filter (λ y. f (x, y)) q xs, rest))
+    | inr e ↦ rw e (omega (arith, sum-same (λ (y : A). 0) 0 xs (λ y m. refl), rest))
+  ]
+
+  pub pairs-filter : (xs : List A) → sum (map f (pairs (filter q xs))) ≡ sum (map kept (pairs xs))
+  pairs-filter [] = refl
+  pairs-filter (x ∷ xs) = with-first x xs (pairs-filter xs) ∙ sym (sum-pairs kept x xs)
+
+-- where a pair gives the same both ways round: the pairs without v, and those of v with each other
+module _ (f : ℕ × ℕ → ℕ) (turned : (x y : ℕ) → f (x, y) ≡ f (y, x)) where
+  pub pairs-cut : (v : ℕ) (xs : List ℕ) → Distinct xs → List·Memᴰ v xs
+      → sum (map f (pairs xs)) ≡ sum (map f (pairs (without v xs))) + sum (map (λ x. f (v, x)) (without v xs))
+  pairs-cut v [] d m = absurd (List·Memᴰ·not-nil m)
+  pairs-cut v (x ∷ xs) d m = elim (List·Memᴰ·cases-cons m) [
+    | inl e ↦ rw (← e, eqb-same v, without-none v xs (λ i. d .0 (Memᴰ·cast (sym e) i))) (omega (arith, sum-pairs f v xs))
+    | inr i ↦
+        let row = sum-cut (λ y. f (x, y)) v xs (d .1) i in
+        let rest = pairs-cut v xs (d .1) i in
+        rw (ne-eqb x v (λ e. d .0 (Memᴰ·cast e i))) (omega (arith, sum-pairs f x xs, sum-pairs f x (without v xs), row, rest, turned x v))
+  ]
+
+  -- and where u and v are two: the pairs without them, that of both, and those of each with the rest
+  pub pairs-cut-two : (u v : ℕ) (xs : List ℕ) → Distinct xs → List·Memᴰ u xs → List·Memᴰ v xs → u ≢ v
+      → sum (map f (pairs xs)) ≡ sum (map f (pairs (without v (without u xs))))
+      + (f (u, v) + (sum (map (λ x. f (u, x)) (without v (without u xs))) + sum (map (λ x. f (v, x)) (without v (without u xs)))))
+  pairs-cut-two u v xs d i j apart =
+      let rest = distinct-filter (λ x. not (eqb x u)) xs d in
+      let m = filter-in (λ x. not (eqb x u)) xs j (ap not (ne-eqb v u (λ e. apart (sym e)))) in
+      omega (arith, pairs-cut u xs d i, pairs-cut v (without u xs) rest m, sum-cut (λ x. f (u, x)) v (without u xs) rest m)

@@ -4,9 +4,10 @@ use mathlib.Core.List.{_++_, [], append-nil, List, List·Memᴰ, List·Memᴰ·c
 use mathlib.Core.Logic.{inl, inr, _≢_}
 use mathlib.Core.Path.{ap, ap₂, refl, sym, _∙_, _≡_}
 use Prim.Native.Nat.{_+_, _-_, _<_, suc, zero, ℕ, _≤_}
-use native.Mathlib.Nat.{add-suc, add-zero, eq-or-lt-of-le, le-refl, suc-add, suc-inj, suc-ne-zero, zero-add}
+use native.Mathlib.Decide.{decLt, ℕ-discrete}
+use native.Mathlib.Nat.{add-suc, add-zero, eq-or-lt-of-le, le-refl, ne-of-lt, suc-add, suc-inj, suc-ne-zero, zero-add}
 use native.Mathlib.Omega.{arith}
-use borrow.Author.Tests.{eqb-false, eqb-true, ne-eqb}
+use borrow.Author.Tests.{eq-eqb, eqb-false, eqb-true, ne-eqb}
 use lib.Dec.{eqb}
 use lib.ListN.{getD, length, length-append}
 use Rattle.arith.proofs.Filter.{filter-append, filter-none}
@@ -154,11 +155,34 @@ mem-place [] i h = absurd (omega arith)
 mem-place (x ∷ xs) zero h = List·Memᴰ·head refl
 mem-place (x ∷ xs) (suc i) h = List·Memᴰ·tail (mem-place xs i (omega arith))
 
+-- where an element stands
+pub record PlaceOf (xs : List ℕ) (p : ℕ) : Type 0 where
+  pub at : ℕ
+  pub inside : at < length xs
+  pub same : getD xs at 0 ≡ p
+
+pub place-of : {p : ℕ} (xs : List ℕ) → List·Memᴰ p xs → PlaceOf xs p
+place-of [] m = absurd (List·Memᴰ·not-nil m)
+place-of {p} (x ∷ xs) m = elim (List·Memᴰ·cases-cons m) [
+  | inl e ↦ record { at = 0; inside = omega arith; same = sym e }
+  | inr d ↦ let r : PlaceOf xs p = place-of xs d in record { at = suc (r .at); inside = omega (arith, r .inside); same = r .same }
+]
+
 pub up-places : (k : ℕ) (xs : List ℕ) → Up k xs → (i j : ℕ) → i < j → j < length xs → getD xs i 0 < getD xs j 0
 up-places k [] u i j l h = absurd (omega arith)
 up-places k (x ∷ xs) u i zero l h = absurd (omega arith)
 up-places k (x ∷ xs) u zero (suc j) l h = mem-up xs (u .1) (mem-place xs j (omega arith))
 up-places k (x ∷ xs) u (suc i) (suc j) l h = up-places (suc x) xs (u .1) i j (omega arith) (omega arith)
+
+-- no number of them stands at two places
+pub up-apart : (k : ℕ) (xs : List ℕ) → Up k xs → (i j : ℕ) → i < length xs → j < length xs → eqb i j ≡ eqb (getD xs i 0) (getD xs j 0)
+up-apart k xs u i j hi hj = elim (ℕ-discrete i j) [
+  | yes e ↦ eq-eqb i j e ∙ sym (eq-eqb (getD xs i 0) (getD xs j 0) (ap (λ a. getD xs a 0) e))
+  | no d ↦ ne-eqb i j d ∙ sym (ne-eqb (getD xs i 0) (getD xs j 0) (elim (decLt i j) [
+    | yes l ↦ ne-of-lt (up-places k xs u i j l hj)
+    | no g ↦ λ e. ne-of-lt (up-places k xs u j i (omega arith) hi) (sym e)
+  ]))
+]
 
 -- a count over a range is a count of the numbers below its end
 pub count-range : (q : ℕ → Bool) (n : ℕ) → count q (range 0 n) ≡ countTo q n

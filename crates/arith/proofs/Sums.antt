@@ -1,5 +1,5 @@
 -- The laws of `sumTo`, of counts, and of lists filled by a loop. Assumes nothing.
-use mathlib.Core.Bool.{Bool, false, or-false, or-true, true, true≢false, _||_}
+use mathlib.Core.Bool.{Bool, cond, false, or-false, or-true, true, true≢false, _||_}
 use mathlib.Core.List.{_++_, [], List, _∷_}
 use mathlib.Core.Logic.{inl, inr, _≢_, ⊎-elim}
 use mathlib.Core.Path.{ap, ap₂, refl, sym, _∙_, _≡_}
@@ -60,6 +60,18 @@ sumTo-gain f g (suc n) k l a h = elim (decLt k n) [
   | yes s ↦ omega (arith, sumTo-gain f g n k s a h, h n (omega arith))
   | no s ↦ let e : n ≡ k = omega arith in omega (arith, sumTo-ext f g n (λ j i. h j (omega arith)), ap f e ∙ a, ap g e)
 ]
+
+-- a test before a sum is a test before each of its terms
+pub sumTo-if : (t : Bool) (f : ℕ → ℕ) (n : ℕ) → cond t (sumTo f n) 0 ≡ sumTo (λ i. cond t (f i) 0) n
+unfolding sumTo
+sumTo-if true f n = refl
+sumTo-if false f zero = refl
+sumTo-if false f (suc n) = omega (arith, sumTo-if false f n)
+
+-- what gives b at most, or nothing
+pub cond-most : (t : Bool) {x b : ℕ} → x ≤ b → cond t x 0 ≤ b
+cond-most true h = h
+cond-most false h = zero-le
 
 -- ---- a loop that adds f i at turn i: the sum after a turn, a bound on it, and the sum at the end
 

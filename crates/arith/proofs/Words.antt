@@ -1,4 +1,4 @@
--- Digits as tests: what a count of ones counts, what a packed number has, and a number without its lowest digits, or its lowest one. Assumes nothing.
+-- Digits as tests: what a count of ones counts, what a number with one bit more has and what a packed one, and a number without its lowest digits, or its lowest one. Assumes nothing.
 use mathlib.Core.Bool.{_&&_, Bool, false, not, true, _||_}
 use mathlib.Core.Logic.{inl, inr, _≢_, ⊎-elim}
 use mathlib.Core.Path.{ap, ap₂, fun-ext, refl, sym, _∙_, _≡_}
@@ -12,7 +12,7 @@ use lib.Bits.{and-le-l, and-self, and-shr, and-step, bitAnd, bitOr, or-shr, or-s
 use lib.Count.{ones, ones-cat, trailingZeros}
 use lib.Dec.{eqb}
 use lib.Pow.{field, mod-mod-pow, mod-pow-add, pow-add, pow-mono, pow-pos, shl-shr, shr-shr}
-use Rattle.arith.proofs.Digits.{digit-two, digits-eq}
+use Rattle.arith.proofs.Digits.{digit-two, digits-eq, or-is, with-other, with-same}
 use Rattle.arith.proofs.Sums.{countTo-ext}
 use Rattle.arith.proofs.Tests.{test}
 use Rattle.arith.specs.Digits.{bitOf, digit}
@@ -48,6 +48,16 @@ bit-and = bit-op bitAnd min _&&_ and-step and-shr (λ x y hx hy. omega arith) (o
 
 pub bit-or : (a b k : ℕ) → bitOf (bitOr a b) k ≡ bitOf a k || bitOf b k
 bit-or = bit-op bitOr max _||_ or-step or-shr (λ x y hx hy. omega arith) (of-two (λ x y. eqb (max x y) 1 ≡ eqb x 1 || eqb y 1) refl refl refl refl)
+
+-- ---- one bit more
+module _ (x k : ℕ) where
+  pub or-same : bitOf (bitOr x (2 ^ k)) k ≡ true
+  unfolding bitOf
+  or-same = eq-eqb _ 1 (ap (λ y. digit y k) (or-is x k) ∙ with-same x k 1 (omega arith))
+
+  pub or-other : (m : ℕ) → m ≢ k → bitOf (bitOr x (2 ^ k)) m ≡ bitOf x m
+  unfolding bitOf
+  or-other m d = ap (λ (y : ℕ). eqb y 1) (ap (λ y. digit y m) (or-is x k) ∙ with-other x k 1 (omega arith) m d)
 
 -- ---- the count of the ones among the n lowest digits
 one : (d : ℕ) → d < 2 → ones d ≡ bit (eqb d 1)

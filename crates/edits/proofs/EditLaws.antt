@@ -28,11 +28,11 @@ use Rattle.state.specs.State.{figure, graph, isStale, size, State}
 
 -- ---- the edges
 
-edge-apart : (es : List ℕ) (a b : ℕ) (on : Bool) (x y : ℕ) → (x ≡ a → y ≡ b → ⊥) → (x ≡ b → y ≡ a → ⊥) → edge (withEdge es a b on) x y ≡ edge es x y
+pub edge-apart : (es : List ℕ) (a b : ℕ) (on : Bool) (x y : ℕ) → (x ≡ a → y ≡ b → ⊥) → (x ≡ b → y ≡ a → ⊥) → edge (withEdge es a b on) x y ≡ edge es x y
 edge-apart es a b on x y f g = edge-with-other es a b on x y (apart-numbers a b x y f g)
 
 module _ (es : List ℕ) (n a b : ℕ) (room : Room n es) (ha : a < n) (hb : b < n) (two : a ≢ b) where
-  edge-written : (on : Bool) → edge (withEdge es a b on) a b ≡ on
+  pub edge-written : (on : Bool) → edge (withEdge es a b on) a b ≡ on
   edge-written on = edge-with-same es a b on two (pair-within a b (length es) two (room-within a b n es ha hb room .bits))
 
   -- the graph after an edit is the graph before with that pair set

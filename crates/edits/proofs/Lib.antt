@@ -1,5 +1,6 @@
 pub mod ApplyLaws
 pub mod EditLaws
+pub mod ExamineLaws
 pub mod HonestLaws
 pub mod ListedLaws
 pub mod NamedLaws

@@ -9,14 +9,13 @@ use native.Mathlib.Decide.{ℕ-discrete}
 use native.Mathlib.Nat.{div-mul-le-self, le-div-iff-mul-le, le-trans, mul-le-mul-left}
 use native.Mathlib.Omega.{arith}
 use lib.ListN.{length}
-use Rattle.arith.proofs.Filter.{count-le, count-most, count-one-more, filter-ext, filter-in}
+use Rattle.arith.proofs.Filter.{count-le, count-most, count-one-more, filter-ext}
 use Rattle.arith.proofs.ListSums.{sum-le, sum-lt}
 use Rattle.arith.proofs.Pairs.{mem-pairs, pairs-distinct, pairs-in}
-use Rattle.arith.proofs.Range.{range-mem}
 use Rattle.arith.proofs.Tests.{and-true, test}
 use Rattle.arith.specs.Lists.{count, pairs, range}
 use Rattle.ego.proofs.Local.{score-same}
-use Rattle.ego.proofs.Shares.{derived, neighbours-linked, neighbours-up}
+use Rattle.ego.proofs.Shares.{derived, neighbours-in, neighbours-linked, neighbours-up}
 use Rattle.ego.specs.Bound.{bound, unlinked}
 use Rattle.ego.specs.inside.Gains.{Gains}
 use Rattle.ego.specs.inside.Derived.{common, pairScore, portion}
@@ -25,7 +24,7 @@ use Rattle.ego.specs.Limits.{limit, unit}
 use Rattle.ego.specs.Score.{score}
 
 -- more divides to less
-div-down : (a b c : ℕ) → b ≤ c → a / (c + 1) ≤ a / (b + 1)
+pub div-down : (a b c : ℕ) → b ≤ c → a / (c + 1) ≤ a / (b + 1)
 div-down a b c h =
     le-div-iff-mul-le {k = b + 1} (omega arith) .1 (le-trans (mul-le-mul-left {m = b + 1} {n = c + 1} (a / (c + 1)) (omega arith)) (div-mul-le-self a (c + 1)))
 
@@ -43,10 +42,10 @@ pairScore-down g g′ nodes more c =
     ]
 
 module _ (g g′ : Graph) (u v : ℕ) (change : Gains g g′ u v) where
-  ends-apart : u ≢ v
+  pub ends-apart : u ≢ v
   ends-apart e = true≢false (sym (change .present) ∙ ap (g′ u) (sym e) ∙ change .new .loopless u)
 
-  gains-more : (a b : ℕ) → g a b ≡ true → g′ a b ≡ true
+  pub gains-more : (a b : ℕ) → g a b ≡ true → g′ a b ≡ true
   gains-more a b e = elim (ℕ-discrete a u) [
     | yes p ↦ elim (ℕ-discrete b v) [
       | yes q ↦ ap (λ x. g′ x b) p ∙ ap (g′ u) q ∙ change .present
@@ -61,9 +60,13 @@ module _ (g g′ : Graph) (u v : ℕ) (change : Gains g g′ u v) where
     ]
   ]
 
+  -- a node that is not an end has the links that it had
+  pub gains-links : (w : ℕ) → w ≢ u → w ≢ v → (q : ℕ) → g w q ≡ g′ w q
+  gains-links w wu wv q = change .others w q (λ x y. wu x) (λ x y. wv x)
+
   pub gains-near : (n w : ℕ) → w ≢ u → w ≢ v → neighbours g n w ≡ neighbours g′ n w
   unfolding neighbours
-  gains-near n w wu wv = filter-ext (range 0 n) (λ q. change .others w q (λ x y. wu x) (λ x y. wv x))
+  gains-near n w wu wv = filter-ext (range 0 n) (gains-links w wu wv)
 
   pub gains-degree : (n w : ℕ) → w ≢ u → w ≢ v → degree g n w ≡ degree g′ n w
   unfolding degree
@@ -75,14 +78,10 @@ module _ (g g′ : Graph) (u v : ℕ) (change : Gains g g′ u v) where
       (sum-le _ _ (pairs (neighbours g n w)) (λ c i. pairScore-down g g′ (neighbours g n w) gains-more c))
 
   module _ (n w : ℕ) (wu : g w u ≡ true) (wv : g w v ≡ true) (un : u < n) (vn : v < n) where
-    near : neighbours g n w ≡ neighbours g′ n w
+    pub near : neighbours g n w ≡ neighbours g′ n w
     near = gains-near n w
         (λ e. true≢false (sym wu ∙ ap (λ x. g x u) e ∙ change .old .loopless u))
         (λ e. true≢false (sym wv ∙ ap (λ x. g x v) e ∙ change .old .loopless v))
-
-    is-near : (x : ℕ) → g w x ≡ true → x < n → List·Memᴰ x (neighbours g n w)
-    unfolding neighbours
-    is-near x e h = filter-in (g w) (range 0 n) (range-mem 0 n (omega arith) (omega arith)) e
 
     lost : degree g n w ≤ limit → (a b : ℕ) → g a b ≡ false → g′ a b ≡ true
         → pairScore g′ (neighbours g n w) (a, b) < pairScore g (neighbours g n w) (a, b)
@@ -93,7 +92,7 @@ module _ (g g′ : Graph) (u v : ℕ) (change : Gains g g′ u v) where
     -- A COMMON NEIGHBOUR of the ends scores less with the edge, and more without it.
     pub common-lower : degree g n w ≤ limit → score g′ n w < score g n w
     common-lower few = rw (derived g (change .old) n w, derived g′ (change .new) n w, ← near)
-        (elim (pairs-in (neighbours g n w) (is-near u wu un) (is-near v wv vn) ends-apart) [
+        (elim (pairs-in (neighbours g n w) (neighbours-in g n w wu un) (neighbours-in g n w wv vn) ends-apart) [
           | inl m ↦ sum-lt _ _ (pairs (neighbours g n w)) (λ c i. pairScore-down g g′ (neighbours g n w) gains-more c) m
               (lost few u v (change .absent) (change .present))
           | inr m ↦ sum-lt _ _ (pairs (neighbours g n w)) (λ c i. pairScore-down g g′ (neighbours g n w) gains-more c) m
@@ -116,7 +115,8 @@ module _ (g g′ : Graph) (u v : ℕ) (change : Gains g g′ u v) where
     bound-lower =
         let nodes = neighbours g n w in
         let up = neighbours-up g n w in
-        let lower : count (unlinked g) (pairs nodes) ≡ count (unlinked g′) (pairs nodes) + 1 = elim (pairs-in nodes (is-near u wu un) (is-near v wv vn) ends-apart) [
+        let ends = pairs-in nodes (neighbours-in g n w wu un) (neighbours-in g n w wv vn) ends-apart in
+        let lower : count (unlinked g) (pairs nodes) ≡ count (unlinked g′) (pairs nodes) + 1 = elim ends [
           | inl m ↦ fewer u v m (change .absent) (change .present)
               (λ x y l q. change .others x y q (λ a b. omega (arith, mem-pairs 0 nodes up m .less)))
           | inr m ↦ fewer v u m (change .old .symmetric v u ∙ change .absent) (change .new .symmetric v u ∙ change .present)
@@ -136,5 +136,5 @@ module _ (g g′ : Graph) (u v : ℕ) (change : Gains g g′ u v) where
     -- EVERY OTHER NODE scores the same.
     pub others-same : score g n w ≡ score g′ n w
     others-same =
-        score-same g g′ n w (λ q h. change .others w q (λ x y. wu x) (λ x y. wv x))
+        score-same g g′ n w (λ q h. gains-links w wu wv q)
         (λ a b i j. change .others a b (not-ends u v a b wu wv not-both i j) (not-ends v u a b wv wu (and-comm (g w v) (g w u) ∙ not-both) i j))

@@ -1,5 +1,5 @@
 -- What the nodes are that are found as a node's neighbours. Assumes nothing.
-use mathlib.Core.Bool.{_&&_}
+use mathlib.Core.Bool.{_&&_, true}
 use mathlib.Core.List.{[], List}
 use mathlib.Core.Path.{ap, ap₂, refl, sym, _∙_, _≡_}
 use Prim.Native.Nat.{_*_, _+_, _<_, ℕ, _≤_}
@@ -10,12 +10,12 @@ use lib.Seq.{sets}
 use Rattle.arith.proofs.Filter.{count-most, mem-filter}
 use Rattle.arith.proofs.Padded.{getD-padded, padded-none, sets-padded}
 use Rattle.arith.proofs.Places.{count-places, pairs-places}
-use Rattle.arith.proofs.Range.{count-range, length-range, mem-place, mem-range, up-places}
+use Rattle.arith.proofs.Range.{count-range, length-range, mem-place, mem-range, place-of, up-places}
 use Rattle.arith.proofs.Sums.{countTo-ext, sumTo-ext}
 use Rattle.arith.specs.Lists.{range}
 use Rattle.arith.specs.Sums.{countTo, sumTo}
 use Rattle.arith.specs.inside.Fill.{padded}
-use Rattle.ego.proofs.Shares.{derived, neighbours-up}
+use Rattle.ego.proofs.Shares.{derived, neighbours-in, neighbours-linked, neighbours-up}
 use Rattle.ego.specs.inside.Derived.{common, pairScore, portion}
 use Rattle.ego.specs.Graph.{degree, Graph, neighbours, Simple}
 use Rattle.ego.specs.Limits.{limit}
@@ -87,6 +87,17 @@ module _ {es nodes : List ℕ} {n p d : ℕ} (f : Found es n p nodes d) (few : d
       let m = mem-place (neighbours (edge es) n p) i (omega (arith, f .all)) in
       omega (arith, node-is i h, mem-range 0 n (mem-filter (edge es p) (range 0 n) m .0))
 
+  pub node-linked : (i : ℕ) → i < d → edge es p (getD nodes i 0) ≡ true
+  node-linked i h =
+      ap (edge es p) (node-is i h) ∙ neighbours-linked (edge es) (simple-edges es) n p (mem-place (neighbours (edge es) n p) i (omega (arith, f .all)))
+
+  -- a neighbour has a place
+  pub node-place : (q : ℕ) → q < n → edge es p q ≡ true → (i : ℕ) × (i < d) × (getD nodes i 0 ≡ q)
+  node-place q h e =
+      let r = place-of (neighbours (edge es) n p) (neighbours-in (edge es) n p e h) in
+      let l : r .at < d = omega (arith, f .all, r .inside) in
+      (r .at, l, node-is (r .at) l ∙ r .same)
+
   pub found-ascending : Room n es → Ascending es nodes d
   found-ascending r = record {
     few = few;
@@ -100,7 +111,7 @@ module _ {es nodes : List ℕ} {n p d : ℕ} (f : Found es n p nodes d) (few : d
     room = λ i h. room-mono (omega (arith, below i h)) r;
   }
 
-  common-at : (i j : ℕ) → i < d → j < d
+  pub common-at : (i j : ℕ) → i < d → j < d
       → common (edge es) (neighbours (edge es) n p) (getD (neighbours (edge es) n p) i 0) (getD (neighbours (edge es) n p) j 0)
       ≡ countTo (λ k. linkAt es nodes i k && linkAt es nodes j k) d
   unfolding common linkAt

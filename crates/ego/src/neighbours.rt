@@ -17,7 +17,7 @@ pub struct Neighbours {
 }
 
 // The neighbours that a row of n nodes has.
-pub(crate) fn members(row: Row, n: usize) -> Neighbours
+pub fn members(row: Row, n: usize) -> Neighbours
     requires { ⌜ n ≤ maxNodes ⌝ }
     ensures { λ r. ⌜ r ≡ firstMembers row n ⌝ }
 {

@@ -4,7 +4,7 @@ ghost use mathlib.Core.Path.{_≡_};
 ghost use Rattle.ego.specs.inside.Words.{shareTable};
 
 // The counts of common neighbours: two of LIMIT neighbours have at most LIMIT - 2.
-const COUNTS: usize = LIMIT - 1;
+pub const COUNTS: usize = LIMIT - 1;
 
 // UNIT / (c + 1), for each count c.
 const SHARES: [u64; COUNTS] = [
@@ -51,7 +51,7 @@ const SHARES: [u64; COUNTS] = [
 
 // What an unlinked pair gives, by how many bits its words share. A table, since a division takes longer than the rest of a pair; made once for a
 // score, since each use of the constant makes it anew.
-pub(crate) fn shares() -> [u64; COUNTS]
+pub fn shares() -> [u64; COUNTS]
     ensures { λ r. ⌜ r ≡ shareTable ⌝ }
 {
     SHARES

@@ -121,8 +121,8 @@ module _ {on : Bool} {theirs base : List ℕ} {s : State} (r : Ready on theirs b
         apart = λ e. omega arith;
         was = taken-was (graph s) (edge theirs) (edge base) a b took .1 ∙ ap not there;
         room = r .room;
-        marked = r .marked;
       };
+      marked = r .marked;
       fewBefore = λ p k. le-trans (within-degree (cap-within (size s) on (edge theirs) (edge base) (graph s)) p k) (r .capped p k);
       fewAfter = λ p k. le-trans (within-degree (cap-within (size s) on (edge theirs) (edge base) (edge (withEdge (s .edges) a b on))) p k) (few-after p k);
     }

@@ -39,6 +39,13 @@ pub with-self : (es : List ℕ) (a b : ℕ) (on : Bool) → a ≡ b → withEdge
 unfolding withEdge
 with-self es a b on e = rw (eq-eqb a b e)
 
+pub with-comm : (es : List ℕ) (a b : ℕ) (on : Bool) → withEdge es a b on ≡ withEdge es b a on
+unfolding withEdge
+with-comm es a b on = elim (ℕ-discrete a b) [
+  | yes e ↦ rw (eq-eqb a b e, eq-eqb b a (sym e))
+  | no d ↦ rw (ne-eqb a b d, ne-eqb b a (λ e. d (sym e)), pair-comm a b)
+]
+
 pub length-with-edge : (es : List ℕ) (a b : ℕ) (on : Bool) → length (withEdge es a b on) ≡ length es
 length-with-edge es a b on = elim (ℕ-discrete a b) [
   | yes e ↦ ap length (with-self es a b on e)

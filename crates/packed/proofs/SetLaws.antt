@@ -31,7 +31,7 @@ use Rattle.packed.proofs.RunLaws.{run-bit, run-cat, run-clear, run-ext,
 use Rattle.packed.specs.Bits.{wordOf}
 use Rattle.packed.specs.Edges.{edge}
 use Rattle.packed.specs.Pairs.{maxNodes}
-use Rattle.packed.specs.inside.Rows.{bothOf, eitherOf, inSet, inWord, membersIn, membersOf, rowOf, setOf}
+use Rattle.packed.specs.inside.Rows.{bothOf, eitherOf, inSet, inWord, membersIn, membersOf, rowOf, setOf, withNode}
 
 -- ---- a word
 
@@ -192,19 +192,24 @@ in-either x y q h =
     let word = getD-tabulate (λ k. bitOr (getD x k 0) (getD y k 0)) 8 (q / 32) 0 (omega arith) in
     ap (λ w. bitOf w (31 - q % 32)) word ∙ bit-or (getD x (q / 32) 0) (getD y (q / 32) 0) (31 - q % 32)
 
--- one node more, as code puts it in
+-- the bit of node q, as code shifts it to its place
+pub bit-mask : (q : ℕ) → 1 * 2 ^ (31 - q % 32) % 2 ^ 32 ≡ 2 ^ (31 - q % 32)
+bit-mask q =
+    let k : ℕ = 31 - q % 32 in
+    mod-eq-of-lt (omega (arith, one-mul (2 ^ k), pow-lt {i = k} {j = 32} (omega arith))) ∙ one-mul (2 ^ k)
+
+-- one node more
 set-put : (f g : ℕ → Bool) (q : ℕ) → q < maxNodes → g q ≡ true → ((r : ℕ) → r ≢ q → g r ≡ f r)
-    → set (setOf f) (q / 32) (bitOr (getD (setOf f) (q / 32) 0) (1 * 2 ^ (31 - q % 32) % 2 ^ 32)) ≡ setOf g
-unfolding setOf
+    → withNode (setOf f) q ≡ setOf g
+unfolding setOf withNode
 set-put f g q h t o =
     let z : 0 < 32 = lit< tt in
     let l : List ℕ = setOf f in
     let k : ℕ = 31 - q % 32 in
     let long = length-tabulate (λ k. packTo (λ j. f (32 * k + (31 - j))) 32) 8 in
     let wide = length-tabulate (λ k. packTo (λ j. g (32 * k + (31 - j))) 32) 8 in
-    let mask : 1 * 2 ^ k % 2 ^ 32 ≡ 2 ^ k = mod-eq-of-lt (omega (arith, one-mul (2 ^ k), pow-lt {i = k} {j = 32} (omega arith))) ∙ one-mul (2 ^ k) in
     let same = length-set l (q / 32) (withDigit (getD l (q / 32) 0) k 1) in
-    ap (λ m. set l (q / 32) (bitOr (getD l (q / 32) 0) m)) mask ∙ ap (set l (q / 32)) (or-is (getD l (q / 32) 0) k)
+    ap (set l (q / 32)) (or-is (getD l (q / 32) 0) k)
     ∙ same-words 32 z (withIn 32 z l q true) (setOf g) (same ∙ long ∙ sym wide) (in-lt 32 z l q true (packed-lt 32 z f 8)) (packed-lt 32 z g 8) (λ i b.
     let few : i < maxNodes = omega (arith, same, long) in
     elim (ℕ-discrete i q) [
@@ -232,6 +237,10 @@ module _ (es : List ℕ) (n p : ℕ) where
   pub in-row : (q : ℕ) → q < n → n ≤ maxNodes → inSet (rowOf es n p) q ≡ edge es p q
   unfolding rowOf
   in-row q h few = in-set neighbour q (omega arith) ∙ neighbour-below q h
+
+  pub row-long : length (rowOf es n p) ≡ 8
+  unfolding rowOf setOf
+  row-long = length-tabulate (λ k. packTo (λ j. neighbour (32 * k + (31 - j))) 32) 8
 
   abbrev pub rowWord : ℕ → ℕ
   rowWord k = packTo (λ j. neighbour (32 * k + (31 - j))) 32
@@ -273,10 +282,16 @@ module _ (es : List ℕ) (n p : ℕ) where
     | no d ↦ ap (λ b. b && edge es p r) (sym (others r d))
   ]))
 
-  pub row-next : n < maxNodes → edge es p n ≡ true
-      → set (rowOf es n p) (n / 32) (bitOr (getD (rowOf es n p) (n / 32) 0) (1 * 2 ^ (31 - n % 32) % 2 ^ 32)) ≡ rowOf es (n + 1) p
+  pub row-next : n < maxNodes → edge es p n ≡ true → withNode (rowOf es n p) n ≡ rowOf es (n + 1) p
   unfolding rowOf
   row-next h t = set-put neighbour (λ q. ltb q (n + 1) && edge es p q) n h (rw (lt-ltb n (n + 1) (omega arith)) t) (λ r d. ap (λ b. b && edge es p r) (others r d))
+
+  -- the row of p in a graph where p has one neighbour more
+  pub row-with : (fs : List ℕ) (q : ℕ) → q < n → n ≤ maxNodes → edge fs p q ≡ true → ((r : ℕ) → r ≢ q → edge fs p r ≡ edge es p r)
+      → withNode (rowOf es n p) q ≡ rowOf fs n p
+  unfolding rowOf
+  row-with fs q h few t o =
+      set-put neighbour (λ r. ltb r n && edge fs p r) q (omega arith) (rw (lt-ltb q n h) t) (λ r d. ap (λ b. ltb r n && b) (o r d))
 
   pub row-size : (m : ℕ) → n ≤ m → m ≤ maxNodes → countTo (inSet (rowOf es n p)) m ≡ countTo (edge es p) n
   unfolding rowOf

@@ -12,7 +12,7 @@ ghost use lib.Seq.{sets};
 ghost use Rattle.arith.specs.Sums.{countTo};
 ghost use Rattle.packed.specs.Pairs.{maxNodes};
 ghost use Rattle.packed.specs.inside.Room.{Room};
-ghost use Rattle.packed.specs.inside.Rows.{bothOf, eitherOf, inSet, inWord, membersIn, membersOf, rowOf, rowsWithin, rowWithin, rowWords, setOf, wordsFor};
+ghost use Rattle.packed.specs.inside.Rows.{bothOf, eitherOf, inSet, inWord, membersIn, membersOf, rowOf, rowsWithin, rowWithin, rowWords, setOf, withNode, wordsFor};
 
 // The words of a set of nodes: 32 nodes in each.
 pub const ROW_WORDS: usize = 8;
@@ -38,6 +38,14 @@ fn row_below(edges: &[u8], p: usize) -> Row
     row
 }
 
+// A set takes in node q.
+pub fn insert(set: &mut [u32], q: usize)
+    requires { ⌜ (length (now set) ≡ rowWords) × (q < maxNodes) ⌝ }
+    ensures { λ _. ⌜ now (set .exit) ≡ withNode (now (set .entry)) q ⌝ }
+{
+    set[q / 32] = set[q / 32] | 1u32 << (31 - q % 32);
+}
+
 // The neighbours of p. The bit of p and q + 1, for q above p, is q bits after that of p and q.
 pub fn row_of(edges: &[u8], n: usize, p: usize) -> Row
     requires { ⌜ (p < n) × Room n (now edges) ⌝ }
@@ -47,7 +55,7 @@ pub fn row_of(edges: &[u8], n: usize, p: usize) -> Row
     let mut i = row_start(p + 1) + p;
     for q in p + 1..n {
         if get(edges, i) {
-            row[q / 32] = row[q / 32] | 1u32 << (31 - q % 32);
+            insert(&mut row[..], q);
         }
         i += q;
     }

@@ -3,12 +3,15 @@ use calls::snapshot::load;
 use calls::snapshot::write;
 use listing::records::list_entries;
 use merge::reconcile::reconcile;
+use preview::preview::preview_add;
+use preview::preview::preview_remove;
 use state::refusal::one_number;
 use topk::entries::Entry;
 use topk::list::Answer;
 use topk::list::list;
 ghost use mathlib.Core.Path.{_≡_};
 ghost use Rattle.merge.specs.Reconcile.{reconcileCall};
+ghost use Rattle.preview.specs.Preview.{previewAddCall, previewed, previewRemoveCall};
 ghost use Rattle.state.specs.Outcome.{left};
 ghost use Rattle.state.specs.Refusal.{oneNumber};
 ghost use Rattle.state.specs.Lent.{atEntry, atExit};
@@ -88,4 +91,34 @@ pub extern "C" fn fj_port_reconcile(
     ensures { λ r. ⌜ left r (atExit links figures marks) ≡ reconcileCall (atEntry links figures marks) (now (theirs .entry)) (now (original .entry)) ⌝ }
 {
     reconcile(links, figures, marks, theirs, original)
+}
+
+// What adding a link would change, post by post.
+#[no_mangle]
+pub extern "C" fn fj_port_preview_add(
+    links: &[u8],
+    figures: &[u64],
+    marks: &[u8],
+    changes: &mut [i64],
+    a: u64,
+    b: u64,
+) -> u64
+    ensures { λ r. ⌜ previewed r (now (changes .exit)) ≡ previewAddCall (atEntry links figures marks) (now (changes .entry)) a b ⌝ }
+{
+    preview_add(links, figures, marks, changes, a as usize, b as usize)
+}
+
+// What removing a link would change, post by post.
+#[no_mangle]
+pub extern "C" fn fj_port_preview_remove(
+    links: &[u8],
+    figures: &[u64],
+    marks: &[u8],
+    changes: &mut [i64],
+    a: u64,
+    b: u64,
+) -> u64
+    ensures { λ r. ⌜ previewed r (now (changes .exit)) ≡ previewRemoveCall (atEntry links figures marks) (now (changes .entry)) a b ⌝ }
+{
+    preview_remove(links, figures, marks, changes, a as usize, b as usize)
 }

@@ -5,7 +5,7 @@ use mathlib.Core.Logic.{_≢_}
 use mathlib.Core.Path.{_≡_}
 use Prim.Native.Nat.{ℕ, _+_, _≤_, _<_, max}
 use lib.Dec.{eqb}
-use lib.ListN.{length}
+use lib.ListN.{getD, length}
 use Rattle.packed.specs.inside.Room.{Room}
 use Rattle.packed.specs.Edges.{edge, withEdge}
 use Rattle.ego.specs.Limits.{limit}
@@ -15,8 +15,9 @@ use Rattle.state.specs.State.{State, state, size, graph}
 use Rattle.state.specs.Refusal.{Condition, refusal, nodeNumber, sameNodes, edgePresent, edgeAbsent, crowdedBefore, crowdedAfter, ends, touched}
 use Rattle.state.specs.Outcome.{Outcome, left, outcome, stateLengths}
 use Rattle.edits.specs.Edit.{added, removed}
-use Rattle.edits.specs.inside.Touched.{Markable, touchedOf}
+use Rattle.edits.specs.inside.Touched.{Lists, Markable, noneTouched, touchedOf}
 use Rattle.edits.specs.inside.Renewal.{BoundEach, renewalBy, noRenewal, Renewable, renewedBy}
+use Rattle.edits.specs.declared.examined.Examined.{Examined}
 use Rattle.edits.specs.declared.renewal.Renewal.{Renewal}
 use Rattle.edits.specs.declared.touched.Touched.{Touched}
 
@@ -56,25 +57,35 @@ pub record Renews (conditions : List Condition) (edges marks : List ℕ) (n a b 
       let s = state edges figures marks in
       left (r .refusal) (state edges′ (renewedBy r figures) marks′) ≡ outcome conditions s (changed s a b on)
 
--- under all its conditions, and under those that are left once its lengths and its pair are accepted
+-- under all its conditions
 abbrev pub Edits : List ℕ → List ℕ → ℕ → ℕ → ℕ → Bool → Renewal → List ℕ → List ℕ → Type 0
 Edits edges marks n a b on = Renews (editConditions edges marks n a b on) edges marks n a b on
 
-abbrev pub Changes : List ℕ → List ℕ → ℕ → ℕ → ℕ → Bool → Renewal → List ℕ → List ℕ → Type 0
-Changes edges marks n a b on = Renews (crowding edges n a b on) edges marks n a b on
-
--- its lengths and its pair are accepted
-pub record Changeable (edges marks : List ℕ) (n a b : ℕ) (on : Bool) : Type 0 where
+-- its pair is accepted
+pub record Changeable (edges : List ℕ) (n a b : ℕ) (on : Bool) : Type 0 where
   pub firstBelow : a < n
   pub secondBelow : b < n
   pub apart : a ≢ b
   pub was : edge edges a b ≡ not on
   pub room : Room n edges
-  pub marked : markBytes n ≤ length marks
 
--- and no node has more edges than the limit, before it and after it
+-- the nodes that it touches are at hand too, and none has more edges than the limit, before it and after it
+pub record Editable (edges : List ℕ) (n a b : ℕ) (on : Bool) (t : Touched) : Type 0 where
+  pub pair : Changeable edges n a b on
+  pub listed : Lists (edge edges) n a b t
+  pub fewBefore : (i : ℕ) → i < t .count → degree (edge edges) n (getD (t .nodes) i 0) ≤ limit
+  pub fewAfter : (i : ℕ) → i < t .count → degree (edge (withEdge edges a b on)) n (getD (t .nodes) i 0) ≤ limit
+
+-- the refusal under some conditions; where there is none an edit that can be made, and where there is one no node
+pub record Examines (conditions : List Condition) (edges : List ℕ) (n a b : ℕ) (on : Bool) (r : Examined) : Type 0 where
+  pub answer : r .refusal ≡ refusal conditions
+  pub ready : r .refusal ≡ 0 → Editable edges n a b on (r .touching)
+  pub none : r .refusal ≢ 0 → r .touching ≡ noneTouched
+
+-- its lengths and its pair are accepted, and no node has more edges than the limit, before it and after it
 pub record Steppable (s : State) (a b : ℕ) (on : Bool) : Type 0 where
-  pub pair : Changeable (s .edges) (s .marks) (size s) a b on
+  pub pair : Changeable (s .edges) (size s) a b on
+  pub marked : markBytes (size s) ≤ length (s .marks)
   pub fewBefore : (p : ℕ) → p < size s → degree (graph s) (size s) p ≤ limit
   pub fewAfter : (p : ℕ) → p < size s → degree (edge (withEdge (s .edges) a b on)) (size s) p ≤ limit
 

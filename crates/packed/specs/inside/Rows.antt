@@ -1,10 +1,10 @@
 -- Sets of nodes as words of 32 bits, and the neighbours of a node as such a set. Assumes nothing.
 use mathlib.Core.Bool.{Bool, cond, _&&_}
 use mathlib.Core.List.{List}
-use Prim.Native.Nat.{ℕ, _+_, _-_, _*_, _/_, _%_}
+use Prim.Native.Nat.{ℕ, _+_, _-_, _*_, _/_, _%_, _^_}
 use lib.Bits.{bitAnd, bitOr}
 use lib.Dec.{ltb}
-use lib.ListN.{getD, replicate}
+use lib.ListN.{getD, replicate, set}
 use Rattle.arith.specs.Digits.{bitOf}
 use Rattle.arith.specs.Lists.{filter, range}
 use Rattle.arith.specs.Sums.{packTo, tabulate}
@@ -26,6 +26,10 @@ inSet row q = bitOf (getD row (q / 32) 0) (31 - q % 32)
 -- the set of the nodes that pass a test
 unfoldable pub setOf : (ℕ → Bool) → List ℕ
 setOf f = tabulate (λ k. packTo (λ j. f (32 * k + (31 - j))) 32) rowWords
+
+-- a set with node q
+unfoldable pub withNode : List ℕ → ℕ → List ℕ
+withNode row q = set row (q / 32) (bitOr (getD row (q / 32) 0) (2 ^ (31 - q % 32)))
 
 -- the nodes that two sets have in common
 unfoldable pub bothOf : List ℕ → List ℕ → List ℕ

@@ -7,8 +7,9 @@ use denote.Ref.{now}
 use lib.ListN.{length}
 use Rattle.ego.proofs.FoundLaws.{found-degree, found-of}
 use Rattle.ego.specs.Limits.{limit}
-use Rattle.edits.proofs.ApplyLaws.{apply-ready, changed-by, Editable, renew-ready, step-ready}
+use Rattle.edits.proofs.ApplyLaws.{apply-ready, changed-by, renew-ready, step-ready}
 use Rattle.edits.proofs.ListedLaws.{lists-by, near-ready}
+use Rattle.edits.specs.inside.Change.{Editable}
 use Rattle.edits.proofs.edit.edit_step.Statement.{statement}
 use Rattle.edits.proofs.edit.edit_step.Tie as tie
 
@@ -30,7 +31,7 @@ fits c =
 
 ready : (c : tie.After-touched-of) →
     let s = start (c .before) .args in
-    Editable (now (s .edges)) (now (s .marks)) (length (now (s .figures))) (s .a) (s .b) (s .on) (c .touched-of .result)
+    Editable (now (s .edges)) (length (now (s .figures))) (s .a) (s .b) (s .on) (c .touched-of .result)
 ready c = step-ready (start (c .before) .pre) (lists-by (found-of (c .before .neighbours-of .ensures)) (fits (c .before)) _ (c .touched-of .ensures))
 
 touched-of-requires : tie.Need-touched-of-requires
@@ -39,7 +40,7 @@ touched-of-requires c κs =
     near-ready (found-of (c .neighbours-of .ensures)) (fits c) (s .pre .pair .firstBelow) (s .pre .pair .secondBelow) (s .pre .pair .room)
 
 apply-requires : tie.Need-apply-requires
-apply-requires c κs = apply-ready (ready (listing c))
+apply-requires c κs = let here = listing c in apply-ready (ready here) (start (here .before) .pre .marked)
 
 renew-requires : tie.Need-renew-requires
 renew-requires c κs =
@@ -52,7 +53,8 @@ returns c =
     let at-apply = applied (at-renew .before) in
     let here = listing (at-apply .before) in
     let made = at-apply .apply .ensures in
-    changed-by (λ k. here .before .before .before .slice-known3 .given k .fits) (made .0) (made .1 .0) (made .1 .1) (ready here) _ refl (at-renew .renew .ensures)
+    let s = start (here .before) in
+    changed-by (now (s .args .marks)) (λ k. here .before .before .before .slice-known3 .given k .fits) (made .0) (made .1 .0) (made .1 .1) (s .pre .marked) (ready here) _ refl (at-renew .renew .ensures)
 
 pub edit-step-spec : {M : Type 1} → statement M
 edit-step-spec =

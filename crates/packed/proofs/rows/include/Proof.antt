@@ -1,5 +1,5 @@
 -- `packed::rows::include` meets its contract: after k turns the first k words have both sets' nodes, and the others are as they were. Assumes nothing.
-use mathlib.Core.Path.{ap, refl, sym, _∙_, _≡_}
+use mathlib.Core.Path.{ap, _∙_}
 use Prim.Native.Nat.{_-_, _<_}
 use native.Mathlib.Nat.{le-refl}
 use native.Mathlib.Omega.{arith}

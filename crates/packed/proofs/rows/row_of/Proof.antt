@@ -1,19 +1,18 @@
 -- `packed::rows::row_of` meets its contract. Before the turn of q the row has the neighbours below q, and i is the bit of p and q. Assumes nothing.
 use mathlib.Core.Logic.{⊎-elim}
 use mathlib.Core.Path.{ap, refl, sym, _∙_, _≡_}
-use Prim.Native.Nat.{_%_, _*_, _+_, _-_, _/_, _<_, _^_, _≤_}
+use Prim.Native.Nat.{_+_, _-_, _<_, _≤_}
 use native.Mathlib.Nat.{le-antisymm}
 use native.Mathlib.Omega.{arith}
 use denote.Ref.{now}
-use lib.Bits.{bitOr}
-use lib.ListN.{getD, set}
+use lib.ListN.{length}
 use Rattle.packed.proofs.EdgeLaws.{edge-self}
 use Rattle.packed.proofs.PairLaws.{room-mono}
 use Rattle.packed.proofs.RowLaws.{column-more, column-within, edge-above, pairs-few}
-use Rattle.packed.proofs.SetLaws.{row-next, row-pass}
+use Rattle.packed.proofs.SetLaws.{row-long, row-next, row-pass}
 use Rattle.packed.specs.Bits.{bitAt}
 use Rattle.packed.specs.Pairs.{maxNodes, pairCount}
-use Rattle.packed.specs.inside.Rows.{rowOf}
+use Rattle.packed.specs.inside.Rows.{rowOf, withNode}
 use Rattle.packed.proofs.rows.row_of.Statement.{statement}
 use Rattle.packed.proofs.rows.row_of.Tie as tie
 
@@ -29,6 +28,10 @@ start l = l .before .before .before .before
 -- the nodes are few
 few : (c : tie.In-loop Inv-loop μ-loop) → c .before .loop .q < maxNodes
 few c = omega (arith, start (c .before) .pre .1 .few)
+
+-- the words of the row
+long : (l : tie.At-loop Inv-loop μ-loop) → length (l .loop .row) ≡ 8
+long l = ap length (l .loop .inv .3) ∙ row-long (now (start l .args .edges)) (l .loop .q) (start l .args .p)
 
 row-below-requires : tie.Need-row-below-requires Inv-loop μ-loop
 row-below-requires c κs = room-mono (omega arith) (c .before .pre .1)
@@ -60,11 +63,8 @@ get-requires c κs =
           (c .loop-test .taken),
     )
 
-array-read-row : tie.Need-array-read-row Inv-loop μ-loop
-array-read-row c = omega (arith, few (c .before .before))
-
-array-write-row : tie.Need-array-write-row Inv-loop μ-loop
-array-write-row c = omega (arith, few (c .before .before))
+insert-requires : tie.Need-insert-requires Inv-loop μ-loop
+insert-requires c κs = (long (c .before .before .before .before), few (c .before .before .before))
 
 add-i-2 : tie.Need-add-i-2 Inv-loop μ-loop
 add-i-2 c =
@@ -83,8 +83,7 @@ loop-again c =
       omega arith,
       omega (arith, column-more q (s .p)),
       ⊎-elim
-          (λ w. w .1 ∙ ap (λ row. set row (q / 32) (bitOr (getD row (q / 32) 0) (1 * 2 ^ (31 - q % 32) % 2 ^ 32))) (inv .3)
-          ∙ row-next es q (s .p) (few (c .before .before)) (is ∙ w .0 .taken))
+          (λ w. w .4 ∙ w .2 .ensures ∙ ap (λ row. withNode row q) (inv .3) ∙ row-next es q (s .p) (few (c .before .before)) (is ∙ w .0 .taken))
           (λ w. w .1 ∙ inv .3 ∙ row-pass es q (s .p) (is ∙ w .0 .left))
           (c .if1 .came),
     )
@@ -99,5 +98,4 @@ pub row-of-spec : {M : Type 1} → statement M
 row-of-spec =
     tie.close
     (tie.spec Inv-loop μ-loop row-below-requires (λ c. omega arith) row-start-requires add-i (λ c. omega arith) loop-holds get-requires
-    (λ c. omega arith) array-read-row (λ c. omega arith) (λ c. omega arith) (λ c. omega arith) (λ c. omega arith) array-write-row add-i-2
-    (λ c. omega arith) (λ c. omega arith) loop-again returns)
+    (λ c. sym (long (c .before .before .before .before))) insert-requires add-i-2 (λ c. omega arith) (λ c. omega arith) loop-again returns)

@@ -1,4 +1,4 @@
--- `edits::edit::pair_refusal` meets its contract. Assumes nothing.
+-- `edits::examined::pair_refusal` meets its contract. Assumes nothing.
 use mathlib.Core.Bool.{cond}
 use mathlib.Core.List.{[]}
 use mathlib.Core.Path.{ap, sym, _∙_, _≡_}
@@ -9,8 +9,8 @@ use Rattle.packed.specs.Edges.{edge}
 use Rattle.state.specs.Refusal.{refusal}
 use Rattle.edits.specs.inside.Change.{pairConditions}
 use Rattle.edits.proofs.NamedLaws.{alike, asked-refused, pair-passed, two-passed, unlike}
-use Rattle.edits.proofs.edit.pair_refusal.Statement.{statement}
-use Rattle.edits.proofs.edit.pair_refusal.Tie as tie
+use Rattle.edits.proofs.examined.pair_refusal.Statement.{statement}
+use Rattle.edits.proofs.examined.pair_refusal.Tie as tie
 
 abbrev start : tie.Else3 → tie.Start
 start c = c .before .before .before .before

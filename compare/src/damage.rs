@@ -1,0 +1,121 @@
+//! Damage to what a call is given.
+
+use crate::crowd::crowd;
+use crate::generate::{node_count, random_edges};
+use crate::memory::{Call, Kind, Memory};
+use crate::plain::packing::{edge_bytes, mark_bytes};
+use crate::rng::Rng;
+
+/// What can go wrong with what a call is given.
+#[derive(Clone, Copy)]
+enum Damage {
+    Edges,
+    Marks,
+    Figures,
+    Scratch,
+    Snapshot,
+    SnapshotOfOther,
+    SnapshotFirst,
+    Theirs,
+    Base,
+    Entries,
+    Changes,
+    N,
+    A,
+    B,
+    Same,
+    Crowd,
+    OtherBoard,
+}
+
+/// Another length than the right one.
+fn wrong_length(rng: &mut Rng, right: usize) -> usize {
+    match rng.below(6) {
+        0 => 0,
+        1 => right + 1,
+        2 => right.saturating_sub(1),
+        3 => 2 * right + 1,
+        4 => right + rng.below(300),
+        _ => rng.below(right + 2),
+    }
+}
+
+fn resize(rng: &mut Rng, bytes: &mut Vec<u8>) {
+    let length = wrong_length(rng, bytes.len());
+    let fresh = rng.bytes(length);
+    let kept = bytes.len().min(length);
+    bytes.truncate(length);
+    bytes.extend(&fresh[kept..]);
+}
+
+/// One thing that a call of this kind can have wrong.
+fn chosen(rng: &mut Rng, kind: Kind) -> Damage {
+    use Damage::*;
+    let own: &[Damage] = match kind {
+        Kind::Clear => &[N],
+        Kind::Score => &[N, A],
+        Kind::PreviewAdd | Kind::PreviewRemove => &[Changes, Changes, A, B, Same, Crowd, Crowd, Crowd],
+        Kind::Add | Kind::Remove => &[N, A, B, Same, Crowd, Crowd],
+        Kind::Load => &[Snapshot, SnapshotOfOther, SnapshotFirst],
+        Kind::Write => &[Snapshot],
+        Kind::Reconcile => &[Theirs, Base],
+        Kind::List | Kind::ListEntries => &[Scratch, Entries],
+    };
+    if rng.chance(60) {
+        rng.pick(own)
+    } else {
+        rng.pick(&[Edges, Marks, Figures, OtherBoard])
+    }
+}
+
+/// One thing that the call is given goes wrong.
+pub fn damage(rng: &mut Rng, n: usize, memory: &mut Memory, call: &mut Call) {
+    use Damage::*;
+    const NUMBERS: [u64; 8] = [0, 1, 255, 256, 257, 1 << 32, u64::MAX - 1, u64::MAX];
+    let far = [n as u64, n as u64 + 1, 256, 1 << 32, 1 << 63, u64::MAX];
+    match chosen(rng, call.kind) {
+        Edges => resize(rng, &mut memory.edges),
+        Marks => resize(rng, &mut memory.marks),
+        Figures => resize(rng, &mut memory.figures),
+        Scratch => resize(rng, &mut memory.scratch),
+        Snapshot => resize(rng, &mut memory.snapshot),
+        Theirs => resize(rng, &mut memory.theirs),
+        Base => resize(rng, &mut memory.base),
+        Entries => {
+            let length = wrong_length(rng, memory.entries.len());
+            memory.entries.resize(length, 7);
+        }
+        Changes => {
+            let length = wrong_length(rng, memory.changes.len());
+            memory.changes.resize(length, rng.next() as i64);
+        }
+        N => call.n = rng.pick(&NUMBERS),
+        A => call.a = rng.pick(&far),
+        B => call.b = rng.pick(&far),
+        Same => call.b = call.a,
+        Crowd => crowd(rng, n, &mut memory.edges, call.a, call.b),
+        SnapshotFirst => {
+            if let Some(first) = memory.snapshot.first_mut() {
+                *first = rng.next() as u8;
+            }
+        }
+        SnapshotOfOther => {
+            let other = node_count(rng);
+            memory.snapshot = vec![(other - 1) as u8];
+            memory.snapshot.extend(random_edges(rng, other));
+        }
+        OtherBoard => other_board(rng, n, memory, call),
+    }
+}
+
+/// Another n altogether, 0 and 257 among them, with every length as it requires.
+fn other_board(rng: &mut Rng, n: usize, memory: &mut Memory, call: &mut Call) {
+    let other = rng.pick(&[0, 1, 2, n + 1, n.saturating_sub(1), 257, 300]);
+    call.n = other as u64;
+    memory.figures = rng.bytes(8 * other);
+    memory.marks = rng.bytes(mark_bytes(other));
+    memory.edges = rng.bytes(edge_bytes(other));
+    if matches!(call.kind, Kind::PreviewAdd | Kind::PreviewRemove) {
+        memory.changes = (0..other).map(|_| rng.next() as i64).collect();
+    }
+}

@@ -1,0 +1,12 @@
+pub mod ByWordsLaws
+pub mod CallLaws
+pub mod ChangeLaws
+pub mod EachLaws
+pub mod EndLaws
+pub mod FallLaws
+pub mod Lemmas
+pub mod PresentLaws
+pub mod Previews
+pub mod RuleLaws
+pub mod ScoreChange
+pub mod Spare
