@@ -1,6 +1,6 @@
 //! The figures and marks that calls leave on small boards.
 
-use super::{links, Board};
+use super::{board, links, Board};
 use crate::calls::Calls;
 use crate::memory::Kind;
 use crate::plain::limits::UNIT;
@@ -25,8 +25,7 @@ fn loaded<'a>(version: &'a dyn Calls, n: usize, pairs: &[(usize, usize)]) -> Boa
 
 /// A board with these links, on which each post is settled and has this figure.
 fn settled<'a>(version: &'a dyn Calls, n: usize, pairs: &[(usize, usize)], figure: u64) -> Board<'a> {
-    let mut board = Board::new(version, n);
-    board.lent.edges = links(n, pairs);
+    let mut board = board(version, n, pairs);
     board.lent.figures = figure.to_le_bytes().repeat(n);
     board
 }

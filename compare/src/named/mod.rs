@@ -1,14 +1,17 @@
 //! Cases by name, each on every call that has the thing tested: the description's that the proofs leave to a run,
-//! the figures of small boards, and what previews show and when they are refused.
+//! the figures of small boards, what previews show and when they are refused, and the sheets that are written and when
+//! a write is refused.
 
 mod figures;
 mod preview_refusals;
 mod previews;
 mod refusals;
+mod sheet_refusals;
+mod sheets;
 
 use crate::calls::Calls;
 use crate::memory::{Call, Kind, Memory};
-use crate::plain::packing::{edge_bytes, mark_bytes, pair_index, put_bit};
+use crate::plain::packing::{edge_bytes, mark_bytes, pair_count, pair_index, put_bit};
 
 /// A board of n posts, with all that a call can be lent: of the lengths that n requires, one entry, and no links anywhere.
 struct Board<'a> {
@@ -58,6 +61,14 @@ impl<'a> Board<'a> {
         self
     }
 
+    /// False figures and marks, and spare bits that are 1.
+    fn falsify(&mut self) {
+        self.lent.figures.fill(0xA5);
+        self.lent.marks.fill(0x96);
+        set_spare(&mut self.lent.marks, self.n);
+        set_spare(&mut self.lent.edges, pair_count(self.n));
+    }
+
     fn figures(&self) -> Vec<u64> {
         self.lent.figures.chunks(8).map(|bytes| u64::from_le_bytes(bytes.try_into().expect("eight bytes"))).collect()
     }
@@ -81,6 +92,47 @@ fn links(n: usize, pairs: &[(usize, usize)]) -> Vec<u8> {
     links
 }
 
+/// The bits of a buffer from `used` on become 1.
+fn set_spare(bytes: &mut [u8], used: usize) {
+    (used..8 * bytes.len()).for_each(|i| put_bit(bytes, i, true));
+}
+
+/// A board with these links.
+fn board<'a>(version: &'a dyn Calls, n: usize, pairs: &[(usize, usize)]) -> Board<'a> {
+    let mut board = Board::new(version, n);
+    board.lent.edges = links(n, pairs);
+    board
+}
+
+/// The links of p to each of the others.
+fn spokes(p: usize, others: impl Iterator<Item = usize>) -> Vec<(usize, usize)> {
+    others.map(|q| (p, q)).collect()
+}
+
+/// All links of n posts.
+fn all_links(n: usize) -> Vec<(usize, usize)> {
+    (0..n).flat_map(|b| spokes(b, 0..b)).collect()
+}
+
+/// What a call answers, and whether all that it is lent is as it was.
+type Answer = (u64, bool);
+
+/// A case's name, the number that is due, and what refused calls answer on a version.
+type Refused = (&'static str, u64, fn(&dyn Calls) -> Vec<Answer>);
+
+/// Runs cases of refused calls on a version and prints their names.
+fn run_refused(version: &dyn Calls, call: &str, cases: &[Refused]) -> Result<(), String> {
+    for (name, due, case) in cases {
+        let found = case(version);
+        if found.iter().any(|&answer| answer != (*due, true)) {
+            let name_of = version.name();
+            return Err(format!("case `{name}` of {call} on {name_of}: {found:?}, due {due} with all as it was"));
+        }
+        println!("case on {}: {call}: {name}: ok", version.name());
+    }
+    Ok(())
+}
+
 /// Runs every case on a version and prints its name.
 pub fn run(version: &dyn Calls) -> Result<(), String> {
     for (name, due, case) in refusals::CASES {
@@ -99,5 +151,7 @@ pub fn run(version: &dyn Calls) -> Result<(), String> {
         println!("case on {}: {name}: ok", version.name());
     }
     previews::run(version)?;
-    preview_refusals::run(version)
+    run_refused(version, "preview", &preview_refusals::CASES)?;
+    sheets::run(version)?;
+    run_refused(version, "write", &sheet_refusals::CASES)
 }

@@ -1,6 +1,6 @@
 //! The refusals of previews, each cause by itself and beside the causes that are tested later.
 
-use super::{links, Board};
+use super::{board, spokes, Answer, Board, Refused};
 use crate::calls::Calls;
 use crate::memory::Kind::{self, PreviewAdd, PreviewRemove};
 
@@ -12,22 +12,13 @@ const LINK: [(usize, usize); 1] = [(0, 1)];
 
 /// Post p linked to the posts from `first` to the last: 41 links from 9, 40 from 10.
 fn fan(p: usize, first: usize) -> Vec<(usize, usize)> {
-    (first..N).map(|q| (p, q)).collect()
+    spokes(p, first..N)
 }
 
 /// Post 2 linked to 0 and 1 and to 39 more: a crowded common neighbour of 0 and 1.
 fn crowded_between() -> Vec<(usize, usize)> {
     [vec![(0, 2), (1, 2)], fan(2, 11)].concat()
 }
-
-fn board<'a>(version: &'a dyn Calls, pairs: &[(usize, usize)]) -> Board<'a> {
-    let mut board = Board::new(version, N);
-    board.lent.edges = links(N, pairs);
-    board
-}
-
-/// What a preview answers, and whether all that it is lent is as it was.
-type Answer = (u64, bool);
 
 /// The answers of a preview of these posts, in both orders.
 fn answers(board: &mut Board, kind: Kind, a: usize, b: usize) -> Vec<Answer> {
@@ -38,12 +29,12 @@ fn answers(board: &mut Board, kind: Kind, a: usize, b: usize) -> Vec<Answer> {
 
 /// The answers of one preview of posts 0 and 1 where these are the links.
 fn on(version: &dyn Calls, kind: Kind, pairs: &[(usize, usize)]) -> Vec<Answer> {
-    answers(&mut board(version, pairs), kind, 0, 1)
+    answers(&mut board(version, N, pairs), kind, 0, 1)
 }
 
 /// The answers of both previews of these posts on a board with these links.
 fn both(version: &dyn Calls, pairs: &[(usize, usize)], a: usize, b: usize) -> Vec<Answer> {
-    BOTH.iter().flat_map(|&kind| answers(&mut board(version, pairs), kind, a, b)).collect()
+    BOTH.iter().flat_map(|&kind| answers(&mut board(version, N, pairs), kind, a, b)).collect()
 }
 
 /// The answers of both previews where something that is lent has another length, with posts of the board and with posts
@@ -54,10 +45,7 @@ fn resized(version: &dyn Calls, resize: &dyn Fn(&mut Board)) -> Vec<Answer> {
     BOTH.iter().flat_map(|&kind| [answers(&mut board, kind, 0, 1), answers(&mut board, kind, N, N)].concat()).collect()
 }
 
-/// A case's name, the number that is due, and what the previews answer on a version.
-type Case = (&'static str, u64, fn(&dyn Calls) -> Vec<Answer>);
-
-const CASES: [Case; 24] = [
+pub const CASES: [Refused; 24] = [
     ("no figures are refusal 1, before 2 and 4", 1, |version| resized(version, &|board| board.lent.figures.clear())),
     ("257 figures are refusal 1, before 2 and 4", 1, |version| {
         resized(version, &|board| board.lent.figures = vec![0; 8 * 257])
@@ -122,16 +110,3 @@ const CASES: [Case; 24] = [
     }),
     ("the 41st link of an end is refusal 12", 12, |version| on(version, PreviewAdd, &fan(0, 10))),
 ];
-
-/// Runs every case on a version and prints its name.
-pub fn run(version: &dyn Calls) -> Result<(), String> {
-    for (name, due, case) in CASES {
-        let found = case(version);
-        if found.iter().any(|&answer| answer != (due, true)) {
-            let name_of = version.name();
-            return Err(format!("case `{name}` of previews on {name_of}: {found:?}, due {due} with all as it was"));
-        }
-        println!("case on {}: preview: {name}: ok", version.name());
-    }
-    Ok(())
-}

@@ -1,11 +1,10 @@
 //! The changes that previews show on small boards and on document 000's example graph.
 
-use super::{links, Board};
+use super::{all_links, board, spokes, Board};
 use crate::calls::Calls;
 use crate::memory::Kind::{self, Add, PreviewAdd, PreviewRemove, Remove};
 use crate::memory::Memory;
 use crate::plain::limits::UNIT;
-use crate::plain::packing::{pair_count, put_bit};
 
 /// The vertices of document 000's example graph in the order of their nodes, and its edges.
 const VERTICES: &str = "abcdefghijkxuvyz";
@@ -41,12 +40,6 @@ const fn each_of_39(numerator: i64, denominator: i64) -> [Change; 39] {
     changes
 }
 
-fn board<'a>(version: &'a dyn Calls, n: usize, pairs: &[(usize, usize)]) -> Board<'a> {
-    let mut board = Board::new(version, n);
-    board.lent.edges = links(n, pairs);
-    board
-}
-
 fn example(version: &dyn Calls) -> Board<'_> {
     let node = |vertex| VERTICES.find(vertex).expect("the vertex is listed");
     let pairs: Vec<(usize, usize)> = EDGES.split(' ').map(|edge| (node(&edge[..1]), node(&edge[1..]))).collect();
@@ -55,19 +48,17 @@ fn example(version: &dyn Calls) -> Board<'_> {
 
 /// Post 0 linked to the posts 1 to `last`, on a board of 41 posts.
 fn fan(version: &dyn Calls, last: usize) -> Board<'_> {
-    board(version, 41, &(1..=last).map(|q| (0, q)).collect::<Vec<_>>())
+    board(version, 41, &spokes(0, 1..=last))
 }
 
 /// All links of 41 posts.
 fn all_of_41(version: &dyn Calls) -> Board<'_> {
-    board(version, 41, &(0..41).flat_map(|b| (0..b).map(move |a| (a, b))).collect::<Vec<_>>())
+    board(version, 41, &all_links(41))
 }
 
 /// Post 2 linked to 0 and 1, and post 9 to `neighbour` and 40 more, on a board of 50 posts: 9 is crowded.
 fn crowded_elsewhere(version: &dyn Calls, neighbour: usize) -> Board<'_> {
-    let mut pairs = vec![(0, 2), (1, 2), (neighbour, 9)];
-    pairs.extend((10..50).map(|q| (9, q)));
-    board(version, 50, &pairs)
+    board(version, 50, &[vec![(0, 2), (1, 2), (neighbour, 9)], spokes(9, 10..50)].concat())
 }
 
 /// A case's name, the preview and its posts, the changes that are due, 0 at every other post, and the board.
@@ -201,14 +192,11 @@ fn grains(n: usize, changes: &[Change]) -> Vec<i64> {
     grains
 }
 
-/// The changes that a preview writes over other numbers, on a board with false figures and spare bits that are 1; an
-/// error where it is refused or alters anything else.
+/// The changes that a preview writes over other numbers, on a falsified board; an error where it is refused or alters
+/// anything else.
 fn previewed(board: &mut Board, kind: Kind, a: usize, b: usize) -> Result<Vec<i64>, String> {
-    let n = board.n;
-    board.lent.figures.fill(0xA5);
-    board.lent.marks.fill(0x96);
-    board.lent.changes = (0..n as i64).map(|p| i64::MIN + p).collect();
-    (pair_count(n)..8 * board.lent.edges.len()).for_each(|i| put_bit(&mut board.lent.edges, i, true));
+    board.falsify();
+    board.lent.changes = (0..board.n as i64).map(|p| i64::MIN + p).collect();
     let before = board.lent.clone();
     let refusal = board.call(kind, a, b);
     let changes = board.lent.changes.clone();

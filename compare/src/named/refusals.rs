@@ -1,19 +1,17 @@
 //! The refusal numbers of the description's cases.
 
-use super::{links, Board};
+use super::{board, links, spokes, Board};
 use crate::calls::Calls;
 use crate::memory::{Kind, KINDS};
 
 /// Links of post 0 to each of the others, on a board of 42 posts.
 fn star(others: impl Iterator<Item = usize>) -> Vec<u8> {
-    links(42, &others.map(|q| (0, q)).collect::<Vec<_>>())
+    links(42, &spokes(0, others))
 }
 
 /// A board of 42 posts whose post 0 has its 40 links.
 fn full(version: &dyn Calls) -> Board<'_> {
-    let mut board = Board::new(version, 42);
-    board.lent.edges = star(1..=40);
-    board
+    board(version, 42, &spokes(0, 1..=40))
 }
 
 /// The refusals of every call on a board of n posts. The link that is added is there to be removed, and neither preview

@@ -216,6 +216,11 @@ module _ {A : Type 0} where
     | no g ↦ let e : n ≡ i = omega arith in getD-at (tabulate f n) (f n) [] d i (length-tabulate f n ∙ e) ∙ ap f e
   ]
 
+  pub tabulate-first : (f : ℕ → A) (n : ℕ) → tabulate f (suc n) ≡ f 0 ∷ tabulate (λ i. f (suc i)) n
+  unfolding tabulate
+  tabulate-first f zero = refl
+  tabulate-first f (suc n) = ap (λ l. l ++ f (suc n) ∷ []) (tabulate-first f n)
+
   -- only the elements below n count
   pub tabulate-ext : (f g : ℕ → A) (n : ℕ) → ((i : ℕ) → i < n → f i ≡ g i) → tabulate f n ≡ tabulate g n
   unfolding tabulate

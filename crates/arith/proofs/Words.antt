@@ -1,9 +1,9 @@
 -- Digits as tests: what a count of ones counts, what a number with one bit more has and what a packed one, and a number without its lowest digits, or its lowest one. Assumes nothing.
-use mathlib.Core.Bool.{_&&_, Bool, false, not, true, _||_}
+use mathlib.Core.Bool.{_&&_, Bool, false, not, true, true≢false, _||_}
 use mathlib.Core.Logic.{inl, inr, _≢_, ⊎-elim}
 use mathlib.Core.Path.{ap, ap₂, fun-ext, refl, sym, _∙_, _≡_}
 use Prim.Native.Nat.{_%_, _*_, _+_, _-_, _/_, _<_, _^_, max, min, suc, zero, ℕ, _≤_}
-use native.Mathlib.Decide.{ℕ-discrete}
+use native.Mathlib.Decide.{decLt, ℕ-discrete}
 use native.Mathlib.Nat.{add-comm, add-mul-div-right, add-mul-mod-self-right, add-zero, div-eq-of-lt, div-mul-le-self, div-one, eq-or-lt-of-le, lt-of-le-of-lt, lt-of-lt-of-le, mod-eq-of-lt, mod-lt, mod-one, mul-add-mod-self-right, mul-assoc, one-mul, pow-suc, zero-add, zero-mul}
 use native.Mathlib.Numerals.{one-add}
 use native.Mathlib.Omega.{arith}
@@ -105,6 +105,10 @@ past-top x m k h l = ap (λ (y : ℕ). eqb (y % 2) 1) (div-eq-of-lt (lt-of-lt-of
 digit-eq : (b : Bool) → eqb (bit b % 2) 1 ≡ b
 digit-eq true = refl
 digit-eq false = refl
+
+-- a digit that is set stands below a number's length
+pub bit-below : (x m i : ℕ) → x < 2 ^ m → bitOf x i ≡ true → i < m
+bit-below x m i h t = elim (decLt i m) [ yes l ↦ l | no g ↦ absurd (true≢false (sym t ∙ past-top x m i h (omega arith))) ]
 
 pub pack-bit : (p : ℕ → Bool) (n k : ℕ) → k < n → bitOf (packTo p n) k ≡ p k
 unfolding sumTo bitOf digit

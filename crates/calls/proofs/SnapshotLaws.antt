@@ -1,19 +1,19 @@
 -- A snapshot's refusals and its parts. Assumes nothing.
 use mathlib.Core.Bool.{_&&_, Bool, Bool·not-not, false, not, true}
-use mathlib.Core.List.{_++_, [], List, _∷_}
-use mathlib.Core.Path.{ap, refl, subst, sym, _∙_, _≡_}
-use Prim.Native.Nat.{_%_, _*_, _+_, _-_, _/_, _<_, _^_, suc, zero, ℕ, _≤_}
-use native.Mathlib.Decide.{decLt}
-use native.Mathlib.Nat.{lt-of-le-of-lt, mod-eq-of-lt, mul-le-mul}
+use mathlib.Core.List.{_++_, [], append-nil, List, _∷_}
+use mathlib.Core.Path.{ap, subst, sym, _∙_, _≡_}
+use Prim.Native.Nat.{_*_, _+_, _-_, _/_, _<_, _^_, suc, ℕ, _≤_}
+use native.Mathlib.Decide.{decLt, ℕ-discrete}
+use native.Mathlib.Nat.{lt-of-le-of-lt, mul-le-mul}
 use native.Mathlib.Omega.{arith}
 use borrow.Author.Tests.{eq-eqb, eqb-true, le-leb, le-ltb, lt-leb, lt-ltb, ne-eqb, not-false}
+use borrow.Rule.Slice.PartMut.{putMid}
 use lib.Dec.{eqb, leb, ltb}
-use lib.ListN.{drop, getD, length, length-drop, length-replicate, replicate, take}
-use lib.Seq.{getD-drop, take-length}
-use Rattle.arith.proofs.Sums.{anyTo-cat, anyTo-ext, anyTo-never, anyTo-none, getD-fillTo, tabulate-ext, tabulate-is}
+use lib.ListN.{drop, getD, length, length-drop, length-set, set, take}
+use lib.Seq.{drop-length, getD-set-other, getD-set-same, take-length}
+use Rattle.arith.proofs.Sums.{anyTo-cat, anyTo-ext, anyTo-never, anyTo-none, tabulate-first, tabulate-is}
 use Rattle.arith.proofs.Tests.{or-false-both}
 use Rattle.arith.proofs.Words.{pack-is, trim-high, trim-le, trim-low}
-use Rattle.arith.specs.inside.Fill.{fillTo, padded}
 use Rattle.arith.specs.Sums.{anyTo, tabulate}
 use Rattle.packed.proofs.BitLaws.{byte-bit}
 use Rattle.packed.proofs.RunLaws.{run-none-set}
@@ -28,7 +28,7 @@ use Rattle.state.specs.Outcome.{lengths, stateLengths}
 use Rattle.state.specs.Refusal.{badSnapshot, Condition, crowdedAfter, everyone, otherCount, refusal, snapshotEdges, snapshotNodes, spareSet, tooMany}
 use Rattle.state.specs.Sizes.{edgeBytes, snapshotBytes}
 use Rattle.state.specs.inside.Bounds.{Boundable}
-use Rattle.state.specs.inside.MaxSizes.{maxEdgeBytes, maxSnapshot}
+use Rattle.state.specs.inside.MaxSizes.{maxEdgeBytes}
 use Rattle.calls.specs.Snapshot.{formConditions, loadConditions, snapshotByte, snapshotOf, writeCall, writeConditions, written}
 use Rattle.state.specs.State.{graph, size, State}
 
@@ -65,13 +65,6 @@ module _ (n : ℕ) (edges : List ℕ) (start count : ℕ) (e : start ≡ pairCou
 
   pub spare-run : {run : ℕ} → run ≡ runOf edges start count → not (eqb run 0) ≡ spareSet n edges
   spare-run q = ap (λ x. not (eqb x 0)) q ∙ ap not (run-none-set (bitAt edges) start count) ∙ Bool·not-not _ ∙ spare-is
-
--- copied edges
-pub copied : (snapshot : List ℕ) (n : ℕ) → length snapshot ≡ 1 + n → tabulate (λ k. getD snapshot (k + 1) 0) n ≡ drop 1 snapshot
-copied snapshot n l =
-    let body : n ≡ length (drop 1 snapshot) = omega (arith, length-drop 1 snapshot) in
-    ap (tabulate (λ k. getD snapshot (k + 1) 0)) body
-    ∙ sym (tabulate-is (λ k. getD snapshot (k + 1) 0) 0 (drop 1 snapshot) (λ k g. getD-drop 1 snapshot k 0 ∙ ap (λ m. getD snapshot m 0) (omega arith)))
 
 -- what a load that is accepted knows of its snapshot
 pub record Fits (n : ℕ) (snapshot : List ℕ) : Type 0 where
@@ -140,14 +133,14 @@ copied-bounds {n} {snapshot} few f e over = rw e (record {
 
 module _ (edges : List ℕ) (n k : ℕ) (small : getD edges k 0 < 256) where
   -- a byte of pairs alone is copied
-  pub whole-byte : 8 * suc k ≤ pairCount n → getD edges k 0 ≡ snapshotByte edges n (suc k)
+  whole-byte : 8 * suc k ≤ pairCount n → getD edges k 0 ≡ snapshotByte edges n (suc k)
   unfolding snapshotByte
   whole-byte h =
       pack-is 8 (getD edges k 0) (λ j. ltb (8 * k + (7 - j)) (pairCount n) && bitAt edges (8 * k + (7 - j))) small
       (λ j l. sym (rw (lt-ltb (8 * k + (7 - j)) (pairCount n) (omega arith)) (byte-bit edges k j l)))
 
   -- of the last byte the spare bits are left out
-  pub last-byte : pairCount n < 8 * suc k → 8 * k ≤ pairCount n
+  last-byte : pairCount n < 8 * suc k → 8 * k ≤ pairCount n
       → getD edges k 0 / 2 ^ (8 * suc k - pairCount n) * 2 ^ (8 * suc k - pairCount n) ≡ snapshotByte edges n (suc k)
   unfolding snapshotByte
   last-byte h g =
@@ -159,18 +152,33 @@ module _ (edges : List ℕ) (n k : ℕ) (small : getD edges k 0 < 256) where
         | no b ↦ trim-high x s j (omega arith) ∙ sym (rw (lt-ltb (8 * k + (7 - j)) (pairCount n) (omega arith)) (byte-bit edges k j l))
       ])
 
--- built in the longest buffer, and copied out
-pub written-is : (s : State) (buffer : List ℕ) {bytes out : List ℕ} → size s ≤ maxNodes → length buffer ≡ snapshotBytes (size s)
-    → bytes ≡ fillTo (snapshotByte (s .edges) (size s)) (replicate maxSnapshot 0) (snapshotBytes (size s)) → out ≡ padded (length buffer) bytes
-    → out ≡ snapshotOf s
-unfolding padded snapshotOf
-written-is s buffer {bytes} few l e q =
+-- the bytes after the first, where the edges end with a pair and where their last byte is trimmed
+module _ (edges : List ℕ) (n : ℕ) (small : Bytes edges) (long : length edges ≡ edgeBytes n) where
+  pub pairs-whole : 8 * length edges - pairCount n ≡ 0 → edges ≡ tabulate (λ k. snapshotByte edges n (suc k)) (edgeBytes n)
+  pairs-whole z = tabulate-is _ 0 edges (λ k b. whole-byte edges n k (small k) (omega arith)) ∙ ap (tabulate _) long
+
+  pub pairs-trimmed : (last : ℕ) {spare r : ℕ} → suc last ≡ length edges → spare ≡ 8 * length edges - pairCount n → (spare ≡ 0 → ⊥)
+      → r ≡ getD edges last 0 / 2 ^ spare * 2 ^ spare → set edges last r ≡ tabulate (λ k. snapshotByte edges n (suc k)) (edgeBytes n)
+  pairs-trimmed last {spare} {r} end e some q =
+      let is : spare ≡ 8 * suc last - pairCount n = e ∙ ap (λ m. 8 * m - pairCount n) (sym end) in
+      tabulate-is _ 0 (set edges last r) (λ k b. elim (ℕ-discrete k last) [
+        | yes i ↦ rw i (getD-set-same edges last r 0 (omega arith) ∙ (rw is at q) ∙ last-byte edges n last (small last) (omega arith) (omega arith))
+        | no d ↦ getD-set-other edges last k r 0 d ∙ whole-byte edges n k (small k) (omega (arith, length-set edges last r))
+      ]) ∙ ap (tabulate _) (length-set edges last r ∙ long)
+
+-- the byte n - 1 is written in front of them
+pub sheet-is : (s : State) (buffer : List ℕ) {rest : List ℕ} → length buffer ≡ snapshotBytes (size s)
+    → rest ≡ tabulate (λ k. snapshotByte (s .edges) (size s) (suc k)) (edgeBytes (size s))
+    → putMid 1 (length (set buffer 0 (size s - 1)) - 1) (set buffer 0 (size s - 1)) rest ≡ snapshotOf s
+unfolding snapshotOf snapshotByte
+sheet-is s [] l e = absurd (omega (arith, l))
+sheet-is s (x ∷ xs) {rest} l e =
     let f = snapshotByte (s .edges) (size s) in
-    let long : snapshotBytes (size s) ≤ length (replicate {A = ℕ} maxSnapshot 0) =
-    omega (arith, bytes-small (size s) few, length-replicate {A = ℕ} maxSnapshot 0) in
-    q ∙ ap (tabulate (λ i. getD bytes i 0)) l
-    ∙ tabulate-ext (λ i. getD bytes i 0) f (snapshotBytes (size s))
-    (λ i h. ap (λ m. getD m i 0) e ∙ getD-fillTo f (replicate maxSnapshot 0) 0 (snapshotBytes (size s)) i h long)
+    let first = size s - 1 in
+    let more : snapshotBytes (size s) ≡ suc (edgeBytes (size s)) = omega arith in
+    let end : suc (length xs) - 1 ≡ length xs = omega arith in
+    ap (λ after. first ∷ (rest ++ after)) (ap (λ m. drop m xs) end ∙ drop-length xs) ∙ ap (λ after. first ∷ after) (append-nil rest ∙ e)
+    ∙ sym (ap (tabulate f) more ∙ tabulate-first f (edgeBytes (size s)))
 
 -- ---- how a write ends
 
@@ -205,21 +213,3 @@ module _ (s : State) (buffer : List ℕ) where
       unfolding writeCall
       write-accepted t q =
           rw (fitted ∙ passed-length _ (snapshotBytes (size s)) (length buffer) l ∙ passed-before [] (graph s) (size s) everyone t ∙ refusal-none, q)
-
--- ---- the same by the byte's place, as code has it
-
-pub first-byte-is : (edges : List ℕ) (n i : ℕ) → n ≤ maxNodes → i ≡ 0 → (n - 1) % 256 ≡ snapshotByte edges n i
-unfolding snapshotByte
-first-byte-is edges n i few e = rw e (mod-eq-of-lt (omega arith))
-
-pub whole-byte-is : (edges : List ℕ) (n i : ℕ) {pairs : ℕ} → pairs ≡ pairCount n → Bytes edges → (i ≡ 0 → ⊥) → 8 * i ≤ pairs
-    → getD edges (i - 1) 0 ≡ snapshotByte edges n i
-whole-byte-is edges n zero p small d h = absurd (d refl)
-whole-byte-is edges n (suc k) p small d h = let e : suc k - 1 ≡ k = omega arith in rw e (whole-byte edges n k (small k) (omega arith))
-
-pub last-byte-is : (edges : List ℕ) (n i : ℕ) {pairs r : ℕ} → pairs ≡ pairCount n → Bytes edges → (i ≡ 0 → ⊥) → i < snapshotBytes n → pairs < 8 * i
-    → r ≡ getD edges (i - 1) 0 / 2 ^ (8 * i - pairs) * 2 ^ (8 * i - pairs) → r ≡ snapshotByte edges n i
-last-byte-is edges n zero p small d b h q = absurd (d refl)
-last-byte-is edges n (suc k) p small d b h q =
-    let e : suc k - 1 ≡ k = omega arith in
-    (rw (e, p) at q) ∙ last-byte edges n k (small k) (omega arith) (omega arith)

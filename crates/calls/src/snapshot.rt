@@ -9,16 +9,14 @@ use state::refusal::CROWDED_BEFORE;
 use state::refusal::LENGTH;
 use state::refusal::MALFORMED;
 use state::refusal::OTHER_COUNT;
-use state::sizes::MAX_SNAPSHOT;
 use state::sizes::edge_bytes;
 use state::sizes::state_refusal;
 ghost use mathlib.Core.Path.{_≡_};
-ghost use Prim.Native.Nat.{_+_, _*_, _/_, _^_, _≤_, _<_};
-ghost use lib.ListN.{length, drop, replicate};
-ghost use Rattle.arith.specs.inside.Fill.{fillTo, padded};
+ghost use Prim.Native.Nat.{suc, _*_, _/_, _^_, _≤_, _<_};
+ghost use lib.ListN.{length};
+ghost use Rattle.arith.specs.Sums.{tabulate};
 ghost use Rattle.packed.specs.Pairs.{maxNodes};
-ghost use Rattle.state.specs.Sizes.{edgeBytes, snapshotBytes};
-ghost use Rattle.state.specs.inside.MaxSizes.{maxSnapshot};
+ghost use Rattle.state.specs.Sizes.{edgeBytes};
 ghost use Rattle.state.specs.Refusal.{refusal, spareSet};
 ghost use Rattle.state.specs.Outcome.{left};
 ghost use Rattle.state.specs.Lent.{atEntry, atExit};
@@ -58,14 +56,13 @@ fn form_refusal(n: usize, snapshot: &[u8]) -> u64
     0
 }
 
-// Copies the edges of a snapshot.
-fn copy_edges(edges: &mut [u8], snapshot: &[u8])
-    requires { ⌜ length (now snapshot) ≡ 1 + length (now edges) ⌝ }
-    ensures { λ _. ⌜ now (edges .exit) ≡ drop 1 (now (snapshot .entry)) ⌝ }
+// Copies bytes to a slice of their length.
+fn copy(to: &mut [u8], from: &[u8])
+    requires { ⌜ length (now to) ≡ length (now from) ⌝ }
+    ensures { λ _. ⌜ now (to .exit) ≡ now (from .entry) ⌝ }
 {
-    for i in 0..edges.len() {
-        let at = i + 1;
-        edges[i] = snapshot[at];
+    for i in 0..to.len() {
+        to[i] = from[i];
     }
 }
 
@@ -85,7 +82,7 @@ pub fn load(edges: &mut [u8], figures: &mut [u64], marks: &mut [u8], snapshot: &
     if any_over(&snapshot[1..], n) {
         return CROWDED_AFTER;
     }
-    copy_edges(edges, snapshot);
+    copy(edges, &snapshot[1..]);
     set_bounds(edges, figures);
     set_stale(marks, n);
     0
@@ -99,43 +96,18 @@ fn trimmed(x: u8, spare: usize) -> u8
     (x >> spare) << spare
 }
 
-// Byte i of the snapshot of n nodes.
-fn snapshot_byte(edges: &[u8], n: usize, i: usize) -> u8
-    requires { ⌜ (0 < n) × (n ≤ maxNodes) × (length (now edges) ≡ edgeBytes n) × (i < snapshotBytes n) ⌝ }
-    ensures { λ r. ⌜ r ≡ snapshotByte (now (edges .entry)) n i ⌝ }
+// Copies the edges of n nodes without the bits past their pairs, all of which are in the last byte.
+fn copy_pairs(to: &mut [u8], edges: &[u8], n: usize)
+    requires { ⌜ (n ≤ maxNodes) × (length (now edges) ≡ edgeBytes n) × (length (now to) ≡ edgeBytes n) ⌝ }
+    ensures { λ _. ⌜ now (to .exit) ≡ tabulate (λ k. snapshotByte (now (edges .entry)) n (suc k)) (edgeBytes n) ⌝ }
 {
-    if i == 0 {
-        return ((n - 1) % 256) as u8;
+    copy(to, edges);
+    let spare = 8 * edges.len() - row_start(n);
+    if spare == 0 {
+        return;
     }
-    let pairs = row_start(n);
-    let x = edges[i - 1];
-    if 8 * i <= pairs {
-        return x;
-    }
-    trimmed(x, 8 * i - pairs)
-}
-
-// The snapshot of n nodes, in a buffer that has room for the longest.
-fn build(edges: &[u8], n: usize) -> [u8; MAX_SNAPSHOT]
-    requires { ⌜ (0 < n) × (n ≤ maxNodes) × (length (now edges) ≡ edgeBytes n) ⌝ }
-    ensures { λ r. ⌜ r ≡ fillTo (snapshotByte (now (edges .entry)) n) (replicate maxSnapshot 0) (snapshotBytes n) ⌝ }
-{
-    let mut bytes = [0u8; MAX_SNAPSHOT];
-    let end = 1 + edge_bytes(n);
-    for i in 0..end {
-        bytes[i] = snapshot_byte(edges, n, i);
-    }
-    bytes
-}
-
-// Copies the first bytes of a snapshot out.
-fn copy_out(snapshot: &mut [u8], bytes: [u8; MAX_SNAPSHOT])
-    requires { ⌜ length (now snapshot) ≤ maxSnapshot ⌝ }
-    ensures { λ _. ⌜ now (snapshot .exit) ≡ padded (length (now (snapshot .entry))) bytes ⌝ }
-{
-    for i in 0..snapshot.len() {
-        snapshot[i] = bytes[i];
-    }
+    let last = edges.len() - 1;
+    to[last] = trimmed(edges[last], spare);
 }
 
 // Writes the snapshot of a state to a buffer of exactly its length.
@@ -153,7 +125,7 @@ pub fn write(edges: &[u8], figures: &[u64], marks: &[u8], snapshot: &mut [u8]) -
     if any_over(edges, n) {
         return CROWDED_BEFORE;
     }
-    let bytes = build(edges, n);
-    copy_out(snapshot, bytes);
+    snapshot[0] = (n - 1) as u8;
+    copy_pairs(&mut snapshot[1..], edges, n);
     0
 }

@@ -1,21 +1,25 @@
 -- The laws of the counts that one pass makes: a node that is not linked keeps its count, one that is gets one more, and the counts through a row
 -- are the degrees with its node. Assumes nothing.
-use mathlib.Core.Bool.{false, true}
+use mathlib.Core.Bool.{_&&_, and-false, Bool, false, true}
 use mathlib.Core.List.{List}
+use mathlib.Core.Logic.{_≢_}
 use mathlib.Core.Path.{ap, refl, sym, _∙_, _≡_}
-use Prim.Native.Nat.{_%_, _*_, _+_, _-_, _<_, _^_, suc, zero, ℕ, _≤_}
-use native.Mathlib.Decide.{decLt}
-use native.Mathlib.Nat.{le-refl}
+use Prim.Native.Nat.{_+_, _-_, _<_, _^_, zero-le, ℕ, _≤_}
+use native.Mathlib.Decide.{decLt, ℕ-discrete}
+use native.Mathlib.Nat.{le-refl, lt-of-le-of-lt}
 use native.Mathlib.Omega.{arith}
-use lib.ListN.{getD, length, length-replicate, replicate, set}
-use lib.Seq.{set-getD}
-use Rattle.arith.proofs.Counts.{count-skip}
-use Rattle.arith.proofs.Sums.{count-more, fill-over, fill-step, fillTo-none, getD-fillTo, getD-fillTo-past, length-fillTo}
-use Rattle.arith.specs.Sums.{countTo}
-use Rattle.arith.specs.inside.Fill.{fillTo}
+use borrow.Author.Tests.{le-ltb, lt-ltb}
+use lib.Bits.{and-le-l, bitAnd}
+use lib.Dec.{lit<, ltb}
+use lib.ListN.{getD, length, length-replicate, length-set, replicate, set}
+use lib.Seq.{ext-getD, getD-set-other, getD-set-same}
+use Rattle.arith.proofs.Counts.{count-none}
+use Rattle.arith.proofs.Sums.{count-gain, count-more, countTo-ext, countTo-le, fill-over, fill-step, fillTo-none, getD-fillTo, getD-fillTo-past, length-fillTo, sumTo-cat}
+use Rattle.arith.proofs.Words.{LowDigit, past-top}
+use Rattle.arith.specs.Digits.{bitOf}
+use Rattle.arith.specs.Sums.{bit, countTo}
 use Rattle.packed.proofs.EdgeLaws.{edge-comm, edge-self}
-use Rattle.packed.proofs.FirstLaws.{Top, top-rest}
-use Rattle.packed.proofs.RunLaws.{run-zero}
+use Rattle.packed.proofs.RunLaws.{run-at, run-lt}
 use Rattle.packed.specs.Bits.{wordOf}
 use Rattle.packed.specs.inside.Degrees.{Counted, degreesOf, degreesTo}
 use Rattle.packed.specs.Edges.{edge}
@@ -46,39 +50,17 @@ unfolding degreesTo
 length-row es b a = length-fillTo (λ p. countTo (edge es p) (b + 1)) (degreesOf es b) a ∙ length-degrees es b
 
 -- a node that is not counted yet
-pub row-ahead : (es : List ℕ) (b q a : ℕ) → b < maxNodes → q ≤ a → a < b → getD (degreesTo es b q) a 0 ≡ countTo (edge es a) b
+row-past : (es : List ℕ) (b q a : ℕ) → q ≤ a → getD (degreesTo es b q) a 0 ≡ getD (degreesOf es b) a 0
 unfolding degreesTo
-row-ahead es b q a h k l = getD-fillTo-past (λ p. countTo (edge es p) (b + 1)) (degreesOf es b) 0 q a k ∙ degree-at es b a (omega arith) l
+row-past es b q a k = getD-fillTo-past (λ p. countTo (edge es p) (b + 1)) (degreesOf es b) 0 q a k
 
--- one node more, which is not linked
-row-pass : (es : List ℕ) (b a : ℕ) → b < maxNodes → a < b → edge es b a ≡ false → degreesTo es b (suc a) ≡ degreesTo es b a
-unfolding degreesTo fillTo
-row-pass es b a h l e =
-    let now : List ℕ = degreesTo es b a in
-    let kept : countTo (edge es a) (b + 1) ≡ getD now a 0 =
-    count-more (edge es a) b false (edge-comm es a b ∙ e) ∙ omega (arith, row-ahead es b a a h (le-refl a) l) in
-    ap (set now a) kept ∙ set-getD now a 0
+row-ahead : (es : List ℕ) (b q a : ℕ) → b < maxNodes → q ≤ a → a < b → getD (degreesTo es b q) a 0 ≡ countTo (edge es a) b
+row-ahead es b q a h k l = row-past es b q a k ∙ degree-at es b a (omega arith) l
 
-pub row-skip : (es : List ℕ) (b q a : ℕ) → b < maxNodes → a ≤ b → q ≤ a → ((p : ℕ) → q ≤ p → p < a → edge es b p ≡ false) → degreesTo es b a ≡ degreesTo es b q
-row-skip es b q zero h l k f = ap (degreesTo es b) (omega arith)
-row-skip es b q (suc a) h l k f = elim (decLt a q) [
-  | yes s ↦ ap (degreesTo es b) (omega arith)
-  | no s ↦ row-pass es b a h l (f a (omega arith) (omega arith)) ∙ row-skip es b q a h (omega arith) (omega arith) (λ p x y. f p x (omega arith))
-]
-
--- the next node that is linked, a, gets one more
-pub row-step : (es : List ℕ) (b q a : ℕ) {counts : List ℕ} → b < maxNodes → a < b → q ≤ a → ((p : ℕ) → q ≤ p → p < a → edge es b p ≡ false) → edge es b a ≡ true
-    → counts ≡ degreesTo es b q → set counts a (getD counts a 0 + 1) ≡ degreesTo es b (a + 1)
+-- one that is
+row-behind : (es : List ℕ) (b a p : ℕ) → a ≤ b → b < maxNodes → p < a → getD (degreesTo es b a) p 0 ≡ countTo (edge es p) (b + 1)
 unfolding degreesTo
-row-step es b q a {counts} h l k f t e =
-    let more : getD counts a 0 + 1 ≡ countTo (edge es a) (b + 1) =
-    ap (λ xs. getD xs a 0 + 1) e ∙ ap (λ x. x + 1) (row-ahead es b q a h k l) ∙ sym (count-more (edge es a) b true (edge-comm es a b ∙ t)) in
-    fill-step (λ p. countTo (edge es p) (b + 1)) (degreesOf es b) a (e ∙ sym (row-skip es b q a h (omega arith) k f)) more
-
--- and so does b's own count
-pub own-step : (es : List ℕ) (b q a : ℕ) → q ≤ a → ((p : ℕ) → q ≤ p → p < a → edge es b p ≡ false) → edge es b a ≡ true
-    → countTo (edge es b) (a + 1) ≡ countTo (edge es b) q + 1
-own-step es b q a k f t = count-more (edge es b) a true t ∙ ap (λ x. x + 1) (count-skip (edge es b) q a k f)
+row-behind es b a p h k l = getD-fillTo (λ p. countTo (edge es p) (b + 1)) (degreesOf es b) 0 a p l (omega (arith, length-degrees es b))
 
 -- the row's end: b takes its own count
 pub row-end : (es : List ℕ) (b : ℕ) {counts : List ℕ} {own : ℕ} → b < maxNodes → counts ≡ degreesTo es b b → own ≡ countTo (edge es b) b
@@ -90,33 +72,97 @@ row-end es b {counts} {own} h e k =
     fill-step f (replicate maxNodes 0) b (e ∙ fill-over f (λ p. countTo (edge es p) b) (replicate maxNodes 0) 0 b b (le-refl b) room)
     (k ∙ sym (count-more (edge es b) b false (edge-self es b b refl) ∙ omega arith))
 
--- ---- a run of the row, its linked nodes from the first on
+-- ---- a run of the row, its linked nodes from the last on
 
--- the nodes before q are counted, and `run` has those from q up to `end`
-pub record Counts (es counts : List ℕ) (b at end own run q : ℕ) : Type 0 where
-  pub start : at ≤ q
-  pub stop : q ≤ end
-  pub left : run ≡ wordOf (edge es b) q (end - q)
-  pub kept : counts ≡ degreesTo es b q
-  pub mine : countTo (edge es b) at + own ≡ countTo (edge es b) q
+-- node p is before `end`, and its digit is left of a run up to there
+abbrev leftAt : ℕ → ℕ → ℕ → Bool
+leftAt left end p = ltb p end && bitOf left (end - 1 - p)
 
-pub row-next : (es counts : List ℕ) (b at end own run q a rest : ℕ) → b < maxNodes → end ≤ b → rest < 64
-    → Counts es counts b at end own run q → Top (edge es b) q end run a rest
-    → Counts es (set counts a (getD counts a 0 + 1)) b at end (own + 1) (run - 1 * 2 ^ rest % 2 ^ 64) (a + 1)
-row-next es counts b at end own run q a rest h l k r t =
-    let f = t .first in
-    let linked = f .some (omega (arith, t .places)) in
+-- the nodes that are left are all that the counts lack
+pub record Counts (es counts : List ℕ) (b at end own left : ℕ) : Type 0 where
+  pub small : left < 2 ^ (end - at)
+  pub long : length counts ≡ maxNodes
+  pub each : (p : ℕ) → getD counts p 0 + bit (leftAt left end p) ≡ getD (degreesTo es b end) p 0
+  pub mine : countTo (edge es b) at + own + countTo (leftAt left end) end ≡ countTo (edge es b) end
+
+-- no count is above a degree
+pub counts-most : (es counts : List ℕ) (b at end own left p : ℕ) → end ≤ b → b < maxNodes → p < end → Counts es counts b at end own left → getD counts p 0 ≤ b + 1
+counts-most es counts b at end own left p l h k r = omega (arith, r .each p, row-behind es b end p l h k, countTo-le (edge es p) (b + 1))
+
+-- at first they are the linked ones
+module _ (es : List ℕ) (b at end left : ℕ) (h : b < maxNodes) (k : at ≤ end) (l : end ≤ b) (e : left ≡ wordOf (edge es b) at (end - at)) where
+  first-small : left < 2 ^ (end - at)
+  first-small = rw e (run-lt (edge es b) at (end - at))
+
+  left-before : (p : ℕ) → p < at → leftAt left end p ≡ false
+  left-before p s = rw (past-top left (end - at) (end - 1 - p) first-small (omega arith)) (and-false (ltb p end))
+
+  left-inside : (p : ℕ) → at ≤ p → p < end → leftAt left end p ≡ edge es b p
+  left-inside p s t = rw (lt-ltb p end t) (run-at (edge es b) at end p e s t)
+
+  first-each : (p : ℕ) → getD (degreesTo es b at) p 0 + bit (leftAt left end p) ≡ getD (degreesTo es b end) p 0
+  first-each p = elim (decLt p at) [
+    | yes s ↦ omega (arith, row-behind es b at p (omega arith) h s, row-behind es b end p l h (omega arith), ap bit (left-before p s))
+    | no s ↦ elim (decLt p end) [
+      | yes t ↦ omega (
+        arith,
+        row-ahead es b at p h (omega arith) (omega arith),
+        row-behind es b end p l h t,
+        ap bit (left-inside p (omega arith) t),
+        count-more (edge es p) b (edge es b p) (edge-comm es p b),
+      )
+      | no t ↦ rw (le-ltb p end (omega arith)) (omega (arith, row-past es b at p (omega arith), row-past es b end p (omega arith)))
+    ]
+  ]
+
+  first-mine : countTo (edge es b) at + 0 + countTo (leftAt left end) end ≡ countTo (edge es b) end
+  first-mine =
+      let m : ℕ = end - at in
+      let all : end ≡ at + m = omega arith in
+      omega (
+        arith,
+        ap (countTo (leftAt left end)) all ∙ sumTo-cat (λ p. bit (leftAt left end p)) at m,
+        count-none (leftAt left end) at left-before,
+        countTo-ext (λ i. leftAt left end (at + i)) (λ i. edge es b (at + i)) m (λ i s. left-inside (at + i) (omega arith) (omega arith)),
+        ap (countTo (edge es b)) all ∙ sumTo-cat (λ p. bit (edge es b p)) at m,
+      )
+
+  pub first-counts : {counts : List ℕ} → counts ≡ degreesTo es b at → Counts es counts b at end 0 left
+  first-counts q = record {
+    small = first-small;
+    long = ap length q ∙ length-row es b at;
+    each = λ p. ap (λ l. getD l p 0 + bit (leftAt left end p)) q ∙ first-each p;
+    mine = first-mine;
+  }
+
+-- a turn takes the last of them,
+pub next-counts : (es counts : List ℕ) (b at end own left t : ℕ) → t < end - at → end ≤ maxNodes → LowDigit left t → Counts es counts b at end own left
+    → Counts es (set counts (end - 1 - t) (getD counts (end - 1 - t) 0 + 1)) b at end (own + 1) (bitAnd left (left - 1))
+next-counts es counts b at end own left t h k l r =
+    let a : ℕ = end - 1 - t in
+    let place : end - 1 - a ≡ t = omega arith in
+    let rest : ℕ = bitAnd left (left - 1) in
+    let on : leftAt left end a ≡ true = rw (lt-ltb a end (omega arith)) (ap (bitOf left) place ∙ l .on) in
+    let off : leftAt rest end a ≡ false = rw (lt-ltb a end (omega arith)) (ap (bitOf rest) place ∙ l .off) in
+    let others : (p : ℕ) → p ≢ a → leftAt rest end p ≡ leftAt left end p = λ p d. elim (decLt p end) [
+      | yes s ↦ ap (λ x. ltb p end && x) (l .others (end - 1 - p) (λ q. d (omega arith)))
+      | no s ↦ rw (le-ltb p end (omega arith))
+    ] in
     record {
-      start = omega (arith, r .start, f .start);
-      stop = omega (arith, t .places);
-      left = top-rest t k .1;
-      kept = row-step es b q a h (omega (arith, t .places)) (f .start) (f .none) linked (r .kept);
-      mine = omega (arith, r .mine, own-step es b q a (f .start) (f .none) linked);
+      small = lt-of-le-of-lt (and-le-l left (left - 1)) (r .small);
+      long = length-set counts a _ ∙ r .long;
+      each = λ p. elim (ℕ-discrete p a) [
+        | yes e ↦ rw e (omega (arith, getD-set-same counts a (getD counts a 0 + 1) 0 (omega (arith, r .long)), ap bit off, ap bit on, r .each a))
+        | no d ↦ omega (arith, getD-set-other counts a p (getD counts a 0 + 1) 0 d, ap bit (others p d), r .each p)
+      ];
+      mine = omega (arith, r .mine, count-gain (leftAt rest end) (leftAt left end) end a (omega arith) off on others);
     }
 
--- no digit is left: the others are not linked
-pub row-done : (es counts : List ℕ) (b at end own run q : ℕ) → b < maxNodes → end ≤ b → Counts es counts b at end own run q → run ≡ 0
-    → Counted es counts b at end own
-row-done es counts b at end own run q h l r e =
-    let none : (p : ℕ) → q ≤ p → p < end → edge es b p ≡ false = λ p x y. run-zero (edge es b) q (end - q) (sym (r .left) ∙ e) p x (omega (arith, r .stop)) in
-    record { each = r .kept ∙ sym (row-skip es b q end h l (r .stop) none); mine = r .mine ∙ sym (count-skip (edge es b) q end (r .stop) none) }
+-- and at last there is none
+pub all-counts : (es counts : List ℕ) (b at end own left : ℕ) → Counts es counts b at end own left → left ≡ 0 → Counted es counts b at end own
+all-counts es counts b at end own left r e =
+    let none : (p : ℕ) → leftAt left end p ≡ false = λ p. rw (e, past-top 0 0 (end - 1 - p) (lit< tt) zero-le) (and-false (ltb p end)) in
+    record {
+      each = ext-getD 0 counts (degreesTo es b end) (r .long ∙ sym (length-row es b end)) (λ p s. omega (arith, r .each p, ap bit (none p)));
+      mine = omega (arith, r .mine, count-none (leftAt left end) end (λ p s. none p));
+    }

@@ -18,7 +18,7 @@ use Rattle.arith.proofs.Tests.{test}
 use Rattle.arith.proofs.Words.{bit-mod, past-top}
 use Rattle.arith.specs.Digits.{bitOf, digit}
 use Rattle.arith.specs.Lists.{leastFrom}
-use Rattle.packed.proofs.RunLaws.{run-bit, run-cat, run-lt, shifted-one}
+use Rattle.packed.proofs.RunLaws.{run-at, run-bit, run-cat, run-lt, shifted-one}
 use Rattle.packed.specs.Bits.{bitAt, differ, runOf, wordOf}
 use Rattle.packed.specs.inside.Search.{FirstFrom}
 
@@ -97,10 +97,7 @@ module _ (f : ℕ → Bool) (q end run : ℕ) (h : q ≤ end) (l : end ≤ q + 6
   within = elim (decLt (top .0) (end - q)) [ yes b ↦ b | no g ↦ absurd (omega (arith, pow-mono {i = end - q} {j = top .0} (omega arith), small, top .2)) ]
 
   bit-is : (p : ℕ) → q ≤ p → p < end → f p ≡ bitOf run (end - 1 - p)
-  bit-is p a b =
-      let at : q + (p - q) ≡ p = omega arith in
-      let place : end - q - 1 - (p - q) ≡ end - 1 - p = omega arith in
-      sym (ap₂ bitOf e (sym place) ∙ run-bit f q (end - q) (p - q) (omega arith) ∙ ap f at)
+  bit-is p a b = sym (run-at f q end p e a b)
 
   pub top-of : (leadingZeros 64 run ≤ 63) × Top f q end run (end - 1 - (63 - leadingZeros 64 run)) (63 - leadingZeros 64 run)
   top-of =

@@ -61,6 +61,13 @@ run-bit f from n j h =
     let all : n ≡ j + 1 + t = omega arith in
     ap (λ m. eqb (wordOf f from m / 2 ^ t % 2) 1) all ∙ ap (λ x. eqb x 1) (run-cut f from j 1 t ∙ run-one f (from + j)) ∙ bit-back (f (from + j))
 
+-- of a run up to `end`, digit end - 1 - p is that of p
+pub run-at : (f : ℕ → Bool) (q end p : ℕ) {run : ℕ} → run ≡ wordOf f q (end - q) → q ≤ p → p < end → bitOf run (end - 1 - p) ≡ f p
+run-at f q end p e a b =
+    let at : q + (p - q) ≡ p = omega arith in
+    let place : end - q - 1 - (p - q) ≡ end - 1 - p = omega arith in
+    ap₂ bitOf e (sym place) ∙ run-bit f q (end - q) (p - q) (omega arith) ∙ ap f at
+
 -- as code cuts it from the 64 bits of its first byte on
 pub run-word : (bs : List ℕ) (from count : ℕ) {x r : ℕ} → from % 8 + count ≤ 64 → x ≡ runOf bs (8 * (from / 8)) 64
     → r ≡ x / 2 ^ (64 - from % 8 - count) % 2 ^ count → r ≡ runOf bs from count

@@ -11,19 +11,19 @@ ghost use Rattle.packed.specs.Pairs.{maxNodes};
 ghost use Rattle.packed.specs.inside.Room.{Room};
 ghost use Rattle.packed.specs.inside.Degrees.{Counted, degreesOf, degreesTo, InRow, moved, shifted, Shiftable};
 
-// Counts the edges of node b to the nodes from `at` up to `end` at these nodes, and returns how many they are.
+// Counts the edges of node b to the nodes from `at` up to `end` at these nodes, and returns how many they are. The last node comes first: its bit is
+// the lowest.
 fn count_run(edges: &[u8], counts: &mut [u16], b: usize, at: usize, end: usize) -> u16
     requires { ⌜ InRow (now edges) b at end × (now counts ≡ degreesTo (now edges) b at) ⌝ }
     ensures { λ r. ⌜ Counted (now (edges .entry)) (now (counts .exit)) b at end r ⌝ }
 {
     let mut own: u16 = 0;
-    let mut run = run_of(edges, row_start(b) + at, end - at);
-    while run != 0 {
-        let after = 63 - u64::leading_zeros(run) as usize;
-        let a = end - 1 - after;
+    let mut left = run_of(edges, row_start(b) + at, end - at);
+    while left != 0 {
+        let a = end - 1 - u64::trailing_zeros(left) as usize;
         counts[a] = counts[a] + 1;
         own += 1;
-        run = run - (1u64 << after);
+        left = left & (left - 1);
     }
     own
 }

@@ -11,12 +11,10 @@ ghost use Rattle.state.specs.Marks.{markBytes};
 ghost use Rattle.state.specs.Refusal.{refusal};
 ghost use Rattle.state.specs.Outcome.{edgeLengths, stateLengths};
 
-// The bytes of the edges, the marks and the snapshot of MAX_NODES nodes.
+// The bytes of the edges and the marks of MAX_NODES nodes.
 pub const MAX_EDGE_BYTES: usize = 4080;
 
 pub const MAX_MARK_BYTES: usize = 32;
-
-pub const MAX_SNAPSHOT: usize = 1 + MAX_EDGE_BYTES;
 
 // The bytes that hold the edges of n nodes.
 pub fn edge_bytes(n: usize) -> usize

@@ -1,8 +1,5 @@
--- How long the buffers of the largest graph are, of 256 nodes. Assumes nothing.
-use Prim.Native.Nat.{ℕ, _+_}
+-- How long the edges of the largest graph are, of 256 nodes. Assumes nothing.
+use Prim.Native.Nat.{ℕ}
 
 abbrev pub maxEdgeBytes : ℕ
 maxEdgeBytes = 4080
-
-abbrev pub maxSnapshot : ℕ
-maxSnapshot = 1 + maxEdgeBytes

@@ -1,7 +1,6 @@
 -- `calls::snapshot::load` meets its contract. Assumes nothing.
 use mathlib.Core.List.{[]}
 use mathlib.Core.Path.{ap, refl, sym, _∙_, _≡_}
-use Prim.Native.Nat.{_+_}
 use native.Mathlib.Omega.{arith}
 use denote.Ref.{now}
 use lib.ListN.{length}
@@ -79,43 +78,51 @@ returns-3 c =
     (λ q. omega arith)
 
 -- the writes, back from one to the one before it
-abbrev counted : tie.After-copy-edges → tie.After-any-over
-counted c = c .before .before .before
+abbrev passed : tie.After-copy → tie.Else3
+passed c = c .before .before .before
 
-abbrev copied : tie.After-set-bounds-arg2 → tie.After-copy-edges
+abbrev copied : tie.After-set-bounds-arg2 → tie.After-copy
 copied c = c .before .before .before .before
 
 abbrev bounds : tie.After-set-stale-arg → tie.After-set-bounds
 bounds c = c .before .before .before
 
-copy-edges-requires : tie.Need-copy-edges-requires
-copy-edges-requires c κs = let e = form (c .before .before) in fits e .long ∙ ap (λ m. 1 + m) (sym (fitted e .sizes .edgesFit))
+sub-copy : tie.Need-sub-copy
+sub-copy c = omega (arith, fits (form (c .before .before)) .long)
+
+part-copy-start : tie.Need-part-copy-start
+part-copy-start c = omega (arith, fits (form (c .before .before)) .long)
+
+copy-requires : tie.Need-copy-requires
+copy-requires c κs = let e = form (c .before .before .before) in fitted e .sizes .edgesFit ∙ sym (part-length (now (start e .args .snapshot)) (fits e .long))
+
+edges-are : (c : tie.After-copy) → c .copy .last .0 ≡ snapshotEdges (now (start (form (passed c .before)) .args .snapshot))
+edges-are c = c .copy .ensures ∙ part-is (now (start (form (passed c .before)) .args .snapshot))
 
 set-bounds-requires : tie.Need-set-bounds-requires
 set-bounds-requires c κs =
-    let copy = copied c in
-    let passed = copy .before .before in
-    let e = form (passed .before) in
-    copied-bounds (fitted e .sizes .few) (fits e) (copy .copy-edges .ensures) (sym (over (passed .before)) ∙ passed .if3 .left)
+    let p = passed (copied c) in
+    let e = form (p .before) in
+    copied-bounds (fitted e .sizes .few) (fits e) (edges-are (copied c)) (sym (over (p .before)) ∙ p .if3 .left)
 
 set-stale-requires : tie.Need-set-stale-requires
-set-stale-requires c κs = fitted (form (counted (copied (bounds c .before)))) .marksFit
+set-stale-requires c κs = fitted (form (passed (copied (bounds c .before)) .before)) .marksFit
 
 returns-4 : tie.Need-returns-4
 unfolding loadCall
 returns-4 c =
     let bounded = bounds (c .before .before .before) in
     let copy = copied (bounded .before) in
-    let passed = copy .before .before in
-    let e = form (passed .before) in
+    let p = passed copy in
+    let e = form (p .before) in
     let snapshot = now (start e .args .snapshot) in
     call-accepted (given (e .before .before .before)) _ _ (fitted e)
-    (load-passed _ snapshot (e .before .form-refusal .ensures) (e .if2 .left) (sym (over (passed .before)) ∙ passed .if3 .left)) refl
-    (loaded-is _ (copy .copy-edges .ensures) (bounded .set-bounds .ensures) (c .before .before .set-stale .ensures))
+    (load-passed _ snapshot (e .before .form-refusal .ensures) (e .if2 .left) (sym (over (p .before)) ∙ p .if3 .left)) refl
+    (loaded-is _ (edges-are copy) (bounded .set-bounds .ensures) (c .before .before .set-stale .ensures))
 
 pub load-spec : {M : Type 1} → statement M
 load-spec =
     tie.close
     (tie.spec (λ c κs. search needs) returns (λ c κs. search needs) returns-2 sub-any-over part-any-over-start (λ c. search needs)
-    any-over-requires returns-3 copy-edges-requires set-bounds-requires set-stale-requires (λ c. search needs) (λ c. search needs) (λ c. search needs)
-    returns-4)
+    any-over-requires returns-3 sub-copy part-copy-start (λ c. search needs) copy-requires set-bounds-requires set-stale-requires (λ c. search needs)
+    (λ c. search needs) (λ c. search needs) returns-4)
