@@ -19,6 +19,18 @@ pub trait Calls {
     fn score(&self, n: u64, edges: &[u8], node: u64) -> u64;
     fn load(&self, edges: &mut [u8], figures: &mut [u64], marks: &mut [u8], snapshot: &[u8]) -> u64;
     fn write(&self, edges: &mut [u8], figures: &mut [u64], marks: &mut [u8], snapshot: &mut [u8]) -> u64;
+    /// The ordinary snapshot of a schedule at a minute.
+    fn schedule_write(&self, schedule: &[u8], minute: u16, snapshot: &mut [u8]) -> u64;
+    /// The first minute after this one at which any edge differs, or 65,536.
+    fn schedule_next(&self, schedule: &[u8], minute: u16) -> u64;
+    fn schedule_load(
+        &self,
+        edges: &mut [u8],
+        figures: &mut [u64],
+        marks: &mut [u8],
+        schedule: &[u8],
+        minute: u16,
+    ) -> u64;
     fn reconcile(&self, edges: &mut [u8], figures: &mut [u64], marks: &mut [u8], theirs: &[u8], base: &[u8]) -> u64;
     fn list(
         &self,

@@ -5,6 +5,7 @@ use crate::generate::{node_count, random_edges};
 use crate::memory::{Call, Kind, Memory};
 use crate::plain::packing::{edge_bytes, mark_bytes};
 use crate::rng::Rng;
+use crate::schedule_damage::damage_schedule;
 
 /// What can go wrong with what a call is given.
 #[derive(Clone, Copy)]
@@ -16,6 +17,7 @@ enum Damage {
     Snapshot,
     SnapshotOfOther,
     SnapshotFirst,
+    Schedule,
     Theirs,
     Base,
     Entries,
@@ -58,10 +60,12 @@ fn chosen(rng: &mut Rng, kind: Kind) -> Damage {
         Kind::Add | Kind::Remove => &[N, A, B, Same, Crowd, Crowd],
         Kind::Load => &[Snapshot, SnapshotOfOther, SnapshotFirst],
         Kind::Write => &[Snapshot],
+        Kind::ScheduleWrite => &[Schedule, Schedule, Snapshot],
+        Kind::ScheduleNext | Kind::ScheduleLoad => &[Schedule],
         Kind::Reconcile => &[Theirs, Base],
         Kind::List | Kind::ListEntries => &[Scratch, Entries],
     };
-    if rng.chance(60) {
+    if rng.chance(60) || !kind.has_state() {
         rng.pick(own)
     } else {
         rng.pick(&[Edges, Marks, Figures, OtherBoard])
@@ -79,6 +83,7 @@ pub fn damage(rng: &mut Rng, n: usize, memory: &mut Memory, call: &mut Call) {
         Figures => resize(rng, &mut memory.figures),
         Scratch => resize(rng, &mut memory.scratch),
         Snapshot => resize(rng, &mut memory.snapshot),
+        Schedule => damage_schedule(rng, &mut memory.schedule),
         Theirs => resize(rng, &mut memory.theirs),
         Base => resize(rng, &mut memory.base),
         Entries => {

@@ -7,25 +7,28 @@ mod linked_library {
     use crate::calls::{Calls, Entry};
 
     /// Declares the C functions, and the library's calls over them. The arguments are numbers, slices that the call
-    /// reads, slices that it may write, slices that it reads, and numbers; to C a slice is its address and its length.
+    /// reads, numbers, slices that it may write, slices that it reads, and numbers; to C a slice is its address and its
+    /// length.
     macro_rules! calls {
         ($($c:ident as $call:ident(
-            $($first:ident),*;
+            $($first:ident: $f:ty),*;
             $($seen:ident: $s:ty),*;
+            $($given:ident: $g:ty),*;
             $($lent:ident: $l:ty),*;
             $($read:ident: $r:ty),*;
-            $($last:ident),*
+            $($last:ident: $t:ty),*
         );)*) => {
             mod c {
                 use super::Entry;
 
                 extern "C" {
                     $(pub fn $c(
-                        $($first: u64,)*
+                        $($first: $f,)*
                         $($seen: *const $s, _: usize,)*
+                        $($given: $g,)*
                         $($lent: *mut $l, _: usize,)*
                         $($read: *const $r, _: usize,)*
-                        $($last: u64,)*
+                        $($last: $t,)*
                     ) -> u64;)*
                 }
             }
@@ -37,16 +40,18 @@ mod linked_library {
 
                 $(fn $call(
                     &self,
-                    $($first: u64,)*
+                    $($first: $f,)*
                     $($seen: &[$s],)*
+                    $($given: $g,)*
                     $($lent: &mut [$l],)*
                     $($read: &[$r],)*
-                    $($last: u64,)*
+                    $($last: $t,)*
                 ) -> u64 {
                     unsafe {
                         c::$c(
                             $($first,)*
                             $($seen.as_ptr(), $seen.len(),)*
+                            $($given,)*
                             $($lent.as_mut_ptr(), $lent.len(),)*
                             $($read.as_ptr(), $read.len(),)*
                             $($last,)*
@@ -62,17 +67,28 @@ mod linked_library {
     pub struct Linked;
 
     calls! {
-        fj_clear as clear(n; ; edges: u8, figures: u8, marks: u8; ;);
-        fj_add as add(n; ; edges: u8, figures: u8, marks: u8; ; a, b);
-        fj_remove as remove(n; ; edges: u8, figures: u8, marks: u8; ; a, b);
-        fj_score as score(n; edges: u8; ; ; node);
-        fj_port_preview_add as preview_add(; edges: u8, figures: u64, marks: u8; changes: i64; ; a, b);
-        fj_port_preview_remove as preview_remove(; edges: u8, figures: u64, marks: u8; changes: i64; ; a, b);
-        fj_port_load as load(; ; edges: u8, figures: u64, marks: u8; snapshot: u8;);
-        fj_port_write as write(; ; edges: u8, figures: u64, marks: u8, snapshot: u8; ;);
-        fj_port_reconcile as reconcile(; ; edges: u8, figures: u64, marks: u8; theirs: u8, base: u8;);
-        fj_port_list as list(; ; edges: u8, figures: u64, marks: u8, entries: u64, scratch: u8; ;);
-        fj_port_list_entries as list_entries(; ; edges: u8, figures: u64, marks: u8, entries: Entry, scratch: u8; ;);
+        fj_clear as clear(n: u64; ; ; edges: u8, figures: u8, marks: u8; ;);
+        fj_add as add(n: u64; ; ; edges: u8, figures: u8, marks: u8; ; a: u64, b: u64);
+        fj_remove as remove(n: u64; ; ; edges: u8, figures: u8, marks: u8; ; a: u64, b: u64);
+        fj_score as score(n: u64; edges: u8; node: u64; ; ;);
+        fj_port_preview_add as preview_add(
+            ; edges: u8, figures: u64, marks: u8; ; changes: i64; ; a: u64, b: u64
+        );
+        fj_port_preview_remove as preview_remove(
+            ; edges: u8, figures: u64, marks: u8; ; changes: i64; ; a: u64, b: u64
+        );
+        fj_port_load as load(; ; ; edges: u8, figures: u64, marks: u8; snapshot: u8;);
+        fj_port_write as write(; ; ; edges: u8, figures: u64, marks: u8, snapshot: u8; ;);
+        fj_port_schedule_write as schedule_write(; schedule: u8; minute: u16; snapshot: u8; ;);
+        fj_port_schedule_next as schedule_next(; schedule: u8; minute: u16; ; ;);
+        fj_port_schedule_load as schedule_load(
+            ; ; ; edges: u8, figures: u64, marks: u8; schedule: u8; minute: u16
+        );
+        fj_port_reconcile as reconcile(; ; ; edges: u8, figures: u64, marks: u8; theirs: u8, base: u8;);
+        fj_port_list as list(; ; ; edges: u8, figures: u64, marks: u8, entries: u64, scratch: u8; ;);
+        fj_port_list_entries as list_entries(
+            ; ; ; edges: u8, figures: u64, marks: u8, entries: Entry, scratch: u8; ;
+        );
     }
 }
 

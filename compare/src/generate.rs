@@ -6,6 +6,7 @@ use crate::plain::graph::Graph;
 use crate::plain::limits::{MAX_DEGREE, UNIT};
 use crate::plain::packing::{bit, edge_bytes, mark_bytes, pair_count, pair_index, put_bit};
 use crate::rng::Rng;
+use crate::schedules::schedule;
 
 /// How full a board is.
 #[derive(Clone, Copy)]
@@ -219,9 +220,12 @@ fn varied(rng: &mut Rng, n: usize, edges: &[u8], most: usize) -> Vec<u8> {
 pub fn next_call(rng: &mut Rng, n: usize, memory: &mut Memory) -> Call {
     let kind = match rng.below(100) {
         0..=1 => Kind::Clear,
-        2..=5 => Kind::Load,
-        6..=9 => Kind::Write,
-        10..=19 => Kind::Score,
+        2..=4 => Kind::Load,
+        5..=7 => Kind::Write,
+        8..=9 => Kind::ScheduleWrite,
+        10..=11 => Kind::ScheduleNext,
+        12..=13 => Kind::ScheduleLoad,
+        14..=19 => Kind::Score,
         20..=24 => Kind::PreviewAdd,
         25..=52 => Kind::Add,
         53..=57 => Kind::PreviewRemove,
@@ -268,7 +272,7 @@ fn edited_pair(rng: &mut Rng, n: usize, edges: &[u8], removes: bool) -> (usize, 
 
 /// A call of this kind that is mostly accepted.
 pub fn call_of_kind(rng: &mut Rng, n: usize, memory: &mut Memory, kind: Kind) -> Call {
-    let mut call = Call { kind, n: n as u64, a: 0, b: 0 };
+    let mut call = Call { kind, n: n as u64, a: 0, b: 0, minute: 0 };
     match kind {
         Kind::Clear => {}
         Kind::Score => call.a = rng.below(n) as u64,
@@ -293,6 +297,11 @@ pub fn call_of_kind(rng: &mut Rng, n: usize, memory: &mut Memory, kind: Kind) ->
             }
         }
         Kind::Write => memory.snapshot = rng.bytes(1 + edge_bytes(n)),
+        Kind::ScheduleWrite | Kind::ScheduleNext | Kind::ScheduleLoad => {
+            let n = if rng.chance(90) { n } else { node_count(rng) };
+            (memory.schedule, call.minute) = schedule(rng, n, kind == Kind::ScheduleNext);
+            memory.snapshot = rng.bytes(1 + edge_bytes(n));
+        }
         Kind::Reconcile => bring_theirs(rng, n, memory),
         Kind::List | Kind::ListEntries => bring_entries(rng, n, memory),
     }

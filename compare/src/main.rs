@@ -2,7 +2,7 @@
 
 use compare::calls::Calls;
 use compare::plain::replay::replay;
-use compare::{bench, ffi, named, run, scripts, text, tuned};
+use compare::{bench, ffi, named, run, schedule_text, scripts, text, tuned};
 use std::env;
 use std::fs::File;
 use std::io::{self, Read, Write};
@@ -18,6 +18,8 @@ const USAGE: &str = "usage:
                                         beside the tuned version
   compare pack [FILE]                   a text to a script; reads standard input without FILE
   compare unpack [FILE]                 a script to a text
+  compare pack-schedule [FILE]          a text of opening hours to a schedule
+  compare unpack-schedule [FILE]        a schedule to a text
   compare replay-plain [FILE]           what the script program prints for a script";
 
 const DEFAULT_SEED: u64 = 1;
@@ -35,8 +37,10 @@ fn main() -> ExitCode {
             bench::run(ffi::linked());
             Ok(())
         }
-        Some((&"pack", rest)) => pack(rest),
-        Some((&"unpack", rest)) => unpack(rest),
+        Some((&"pack", rest)) => pack(rest, text::pack),
+        Some((&"unpack", rest)) => unpack(rest, text::unpack),
+        Some((&"pack-schedule", rest)) => pack(rest, schedule_text::pack),
+        Some((&"unpack-schedule", rest)) => unpack(rest, schedule_text::unpack),
         Some((&"replay-plain", rest)) => input(rest).and_then(|script| print(replay(&script).as_bytes())),
         _ => Err(USAGE.to_string()),
     };
@@ -116,15 +120,20 @@ fn named_input(words: &[&str], message: String) -> String {
     format!("{}: {message}", words.first().unwrap_or(&"standard input"))
 }
 
-fn pack(words: &[&str]) -> Result<(), String> {
+/// The bytes that a packer makes of a text.
+fn pack(words: &[&str], packer: fn(&str) -> Result<Vec<u8>, String>) -> Result<(), String> {
     let bytes = input(words)?;
     let text = String::from_utf8(bytes).map_err(|_| named_input(words, "expected text in UTF-8".to_string()))?;
-    let script = text::pack(&text).map_err(|message| named_input(words, message))?;
-    print(&script)
+    let packed = packer(&text).map_err(|message| named_input(words, message))?;
+    print(&packed)
 }
 
-fn unpack(words: &[&str]) -> Result<(), String> {
-    let (text, done) = text::unpack(&input(words)?);
+/// The text of some bytes, and what is wrong with them.
+type Unpacked = (String, Result<(), String>);
+
+/// The text that an unpacker makes of bytes, and its errors.
+fn unpack(words: &[&str], unpacker: fn(&[u8]) -> Unpacked) -> Result<(), String> {
+    let (text, done) = unpacker(&input(words)?);
     print(text.as_bytes())?;
     done.map_err(|message| named_input(words, message))
 }

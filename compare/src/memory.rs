@@ -1,6 +1,7 @@
 //! One call with everything that is lent to it.
 
 use crate::calls::{Calls, Entry};
+use crate::plain::refusal::Refusal;
 use std::fmt;
 
 #[derive(Clone, Copy, Debug, PartialEq, Eq)]
@@ -8,6 +9,9 @@ pub enum Kind {
     Clear,
     Load,
     Write,
+    ScheduleWrite,
+    ScheduleNext,
+    ScheduleLoad,
     Score,
     PreviewAdd,
     Add,
@@ -18,10 +22,13 @@ pub enum Kind {
     ListEntries,
 }
 
-pub const KINDS: [Kind; 11] = [
+pub const KINDS: [Kind; 14] = [
     Kind::Clear,
     Kind::Load,
     Kind::Write,
+    Kind::ScheduleWrite,
+    Kind::ScheduleNext,
+    Kind::ScheduleLoad,
     Kind::Score,
     Kind::PreviewAdd,
     Kind::Add,
@@ -39,11 +46,12 @@ pub struct Call {
     pub n: u64,
     pub a: u64,
     pub b: u64,
+    pub minute: u16,
 }
 
 impl fmt::Display for Call {
     fn fmt(&self, f: &mut fmt::Formatter) -> fmt::Result {
-        let Call { kind, n, a, b } = self;
+        let Call { kind, n, a, b, minute } = self;
         match kind {
             Kind::Clear => write!(f, "clear, n = {n}"),
             Kind::Score => write!(f, "score, n = {n}, node {a}"),
@@ -53,6 +61,9 @@ impl fmt::Display for Call {
             Kind::Remove => write!(f, "remove, n = {n}, {a} and {b}"),
             Kind::Load => write!(f, "load"),
             Kind::Write => write!(f, "write"),
+            Kind::ScheduleWrite => write!(f, "snapshot of a schedule at minute {minute}"),
+            Kind::ScheduleNext => write!(f, "next change after minute {minute}"),
+            Kind::ScheduleLoad => write!(f, "load of a schedule at minute {minute}"),
             Kind::Reconcile => write!(f, "reconcile"),
             Kind::List => write!(f, "list"),
             Kind::ListEntries => write!(f, "list, entries as records"),
@@ -64,9 +75,9 @@ impl Kind {
     /// The refusal in an answer of this kind of call, 0 for acceptance.
     pub fn refusal(self, answer: u64) -> u64 {
         match self {
-            Kind::Score | Kind::List | Kind::ListEntries => {
+            Kind::Score | Kind::ScheduleNext | Kind::List | Kind::ListEntries => {
                 let negated = answer.wrapping_neg();
-                if negated <= 12 {
+                if negated <= Refusal::LAST {
                     negated
                 } else {
                     0
@@ -74,6 +85,11 @@ impl Kind {
             }
             _ => answer,
         }
+    }
+
+    /// The call is lent a state, or is given its n.
+    pub fn has_state(self) -> bool {
+        !matches!(self, Kind::ScheduleWrite | Kind::ScheduleNext)
     }
 }
 
@@ -86,6 +102,7 @@ pub struct Memory {
     pub figures: Vec<u8>,
     pub marks: Vec<u8>,
     pub snapshot: Vec<u8>,
+    pub schedule: Vec<u8>,
     pub theirs: Vec<u8>,
     pub base: Vec<u8>,
     /// The plain entries; as records, as many as there are whole ones.
@@ -97,7 +114,7 @@ pub struct Memory {
 impl Memory {
     /// Runs the call of one version over this memory.
     pub fn run(&mut self, version: &dyn Calls, call: Call) -> u64 {
-        let Call { kind, n, a, b } = call;
+        let Call { kind, n, a, b, minute } = call;
         match kind {
             Kind::Clear => version.clear(n, &mut self.edges, &mut self.figures, &mut self.marks),
             Kind::Add => version.add(n, &mut self.edges, &mut self.figures, &mut self.marks, a, b),
@@ -114,6 +131,11 @@ impl Memory {
             }),
             Kind::Write => self.over_numbers(|memory, figures| {
                 version.write(&mut memory.edges, figures, &mut memory.marks, &mut memory.snapshot)
+            }),
+            Kind::ScheduleWrite => version.schedule_write(&self.schedule, minute, &mut self.snapshot),
+            Kind::ScheduleNext => version.schedule_next(&self.schedule, minute),
+            Kind::ScheduleLoad => self.over_numbers(|memory, figures| {
+                version.schedule_load(&mut memory.edges, figures, &mut memory.marks, &memory.schedule, minute)
             }),
             Kind::Reconcile => self.over_numbers(|memory, figures| {
                 version.reconcile(&mut memory.edges, figures, &mut memory.marks, &memory.theirs, &memory.base)
@@ -155,6 +177,7 @@ impl Memory {
             ("figures byte", &self.figures, &other.figures),
             ("marks byte", &self.marks, &other.marks),
             ("snapshot byte", &self.snapshot, &other.snapshot),
+            ("schedule byte", &self.schedule, &other.schedule),
             ("theirs byte", &self.theirs, &other.theirs),
             ("base byte", &self.base, &other.base),
             ("scratch byte", &self.scratch, &other.scratch),
@@ -185,6 +208,7 @@ impl fmt::Display for Memory {
             ("figures", &self.figures),
             ("marks", &self.marks),
             ("snapshot", &self.snapshot),
+            ("schedule", &self.schedule),
             ("theirs", &self.theirs),
             ("base", &self.base),
             ("scratch", &self.scratch),

@@ -5,9 +5,10 @@ use crate::damage::damage;
 use crate::generate::{call_of_kind, corrupt, next_call, node_count, state};
 use crate::memory::{Call, Kind, Memory, KINDS};
 use crate::plain::calls::Plain;
+use crate::plain::refusal::Refusal;
 use crate::plain::{derived, paths};
-use crate::preview_check;
 use crate::rng::Rng;
+use crate::{preview_check, schedule_check};
 
 const BY_PATHS: Plain = Plain { name: "plain (paths)", scorer: paths::score };
 const BY_FORM: Plain = Plain { name: "plain (derived form)", scorer: derived::score };
@@ -18,7 +19,7 @@ pub struct Tally {
     pub calls: usize,
     pub histories: usize,
     pub singles: usize,
-    refusals: [[usize; 13]; KINDS.len()],
+    refusals: [[usize; Refusal::LAST as usize + 1]; KINDS.len()],
 }
 
 impl Tally {
@@ -31,7 +32,7 @@ impl Tally {
     /// A line for each kind of call, a column for each refusal number.
     pub fn table(&self) -> String {
         let mut out = format!("{:<14}", "refusal");
-        for number in 0..=12 {
+        for number in 0..=Refusal::LAST {
             out += &format!("{number:>7}");
         }
         for (kind, row) in KINDS.iter().zip(&self.refusals) {
@@ -44,8 +45,8 @@ impl Tally {
     }
 }
 
-/// Compares one call of `version` with the plain version, and a preview with the edit. The memory ends as the plain
-/// version leaves it.
+/// Compares one call of `version` with the plain version, a preview with the edit, and a load of a schedule with a load
+/// of its snapshot. The memory ends as the plain version leaves it.
 fn compare(version: &dyn Calls, call: Call, memory: &mut Memory) -> Result<u64, String> {
     let before = memory.clone();
     let answer = memory.run(&BY_PATHS, call);
@@ -56,6 +57,9 @@ fn compare(version: &dyn Calls, call: Call, memory: &mut Memory) -> Result<u64, 
     agree(version, call, &before, memory, answer)?;
     preview_check::check(version, call, &before, memory, answer).map_err(|what| {
         format!("{} against its own edit and scores, {call}\n  {what}\nbefore the call:\n{before}", version.name())
+    })?;
+    schedule_check::check(version, call, &before, memory, answer).map_err(|what| {
+        format!("{} against its own snapshot, {call}\n  {what}\nbefore the call:\n{before}", version.name())
     })?;
     Ok(answer)
 }
@@ -91,7 +95,10 @@ fn call_of_step(rng: &mut Rng, n: usize, memory: &mut Memory, step: usize, singl
     match step {
         0 if single => call_of_kind(rng, n, memory, kind),
         0 if rng.chance(45) => call_of_kind(rng, n, memory, Kind::Clear),
-        0 if rng.chance(80) => call_of_kind(rng, n, memory, Kind::Load),
+        0 if rng.chance(80) => {
+            let load = rng.pick(&[Kind::Load, Kind::ScheduleLoad]);
+            call_of_kind(rng, n, memory, load)
+        }
         _ => next_call(rng, n, memory),
     }
 }

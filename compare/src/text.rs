@@ -9,8 +9,12 @@
 //! ```
 //! Blank lines and what follows a `#` are ignored.
 
+use crate::lines::{ended, lines, numbers, posts, Line};
 use crate::plain::packing::{bytes_for, put_bit};
 use crate::plain::script::{record, Malformed, Record, MAX_BYTES, RECORD_BITS};
+
+/// What a line after the first may be.
+const RECORDS: &str = "`add A B`, `remove A B`, `list K` or `end`";
 
 /// Bits appended to bytes, most significant first.
 #[derive(Default)]
@@ -35,59 +39,39 @@ impl Packer {
     }
 }
 
-/// The numbers after a line's word, each within its range; `None` where they are not these.
-fn numbers(words: &[&str], low: usize, high: usize) -> Option<Vec<usize>> {
-    words.iter().map(|word| word.parse().ok().filter(|number| (low..=high).contains(number))).collect()
+/// Packs a line after the first into a record.
+fn pack_line(packer: &mut Packer, line: &Line) -> Result<(), String> {
+    let (word, rest) = (line.words[0], &line.words[1..]);
+    match word {
+        "add" | "remove" => match numbers(rest, 0, 255).as_deref() {
+            Some(&[a, b]) => packer.record(if word == "add" { 1 } else { 2 }, a, b),
+            _ => return line.wrong(&format!("`{word} A B` with A and B from 0 to 255")),
+        },
+        "list" => match numbers(rest, 1, 256).as_deref() {
+            Some(&[k]) => packer.record(3, k - 1, 0),
+            _ => return line.wrong("`list K` with K from 1 to 256"),
+        },
+        "end" if rest.is_empty() => packer.record(0, 0, 0),
+        _ => return line.wrong(RECORDS),
+    }
+    if packer.bytes.len() > MAX_BYTES {
+        return line.wrong(&format!("a script of at most {MAX_BYTES} bytes"));
+    }
+    Ok(())
 }
 
 /// Packs a text into a script. An error names the line and what was expected.
 pub fn pack(text: &str) -> Result<Vec<u8>, String> {
+    let mut lines = lines(text);
     let mut packer = Packer::default();
-    let (mut started, mut ended) = (false, false);
-    for (number, line) in text.lines().enumerate() {
-        let wrong = |expected: &str| Err(format!("line {}: expected {expected}, found `{}`", number + 1, line.trim()));
-        let words: Vec<&str> = line.split('#').next().unwrap_or("").split_whitespace().collect();
-        let Some((&word, rest)) = words.split_first() else {
-            continue;
-        };
-        if ended {
-            return wrong("nothing after `end`");
-        }
-        if !started {
-            match (word, numbers(rest, 1, 256).as_deref()) {
-                ("posts", Some(&[n])) => packer.push(8, n - 1),
-                _ => return wrong("`posts N` with N from 1 to 256"),
-            }
-            started = true;
-            continue;
-        }
-        match word {
-            "add" | "remove" => match numbers(rest, 0, 255).as_deref() {
-                Some(&[a, b]) => packer.record(if word == "add" { 1 } else { 2 }, a, b),
-                _ => return wrong(&format!("`{word} A B` with A and B from 0 to 255")),
-            },
-            "list" => match numbers(rest, 1, 256).as_deref() {
-                Some(&[k]) => packer.record(3, k - 1, 0),
-                _ => return wrong("`list K` with K from 1 to 256"),
-            },
-            "end" if rest.is_empty() => {
-                packer.record(0, 0, 0);
-                ended = true;
-            }
-            _ => return wrong("`add A B`, `remove A B`, `list K` or `end`"),
-        }
-        if packer.bytes.len() > MAX_BYTES {
-            return wrong(&format!("a script of at most {MAX_BYTES} bytes"));
+    packer.push(8, posts(text, lines.next())? - 1);
+    while let Some(line) = lines.next() {
+        pack_line(&mut packer, &line)?;
+        if line.words[0] == "end" {
+            return lines.next().map_or(Ok(packer.bytes), |line| line.wrong("nothing after `end`"));
         }
     }
-    let after = text.lines().count() + 1;
-    match (started, ended) {
-        (false, _) => Err(format!("line {after}: expected `posts N` with N from 1 to 256, found the end of the text")),
-        (_, false) => {
-            Err(format!("line {after}: expected `add A B`, `remove A B`, `list K` or `end`, found the end of the text"))
-        }
-        _ => Ok(packer.bytes),
-    }
+    ended(text, RECORDS)
 }
 
 /// Prints a script as text. An error names the record and what was expected; the lines of the

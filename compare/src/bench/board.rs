@@ -14,6 +14,7 @@ pub struct Board {
     pub figures: Vec<u64>,
     pub marks: Vec<u8>,
     pub snapshot: Vec<u8>,
+    pub schedule: Vec<u8>,
     pub theirs: Vec<u8>,
     pub entries: Vec<u64>,
     pub records: Vec<Entry>,
@@ -22,6 +23,8 @@ pub struct Board {
     /// The pair that an edit names, or the node that is scored.
     pub a: u64,
     pub b: u64,
+    /// The minute at which the schedule is read.
+    pub minute: u16,
 }
 
 impl Board {
@@ -77,9 +80,11 @@ impl Board {
             records: vec![Entry::default(); 8],
             scratch: vec![0; n],
             changes: vec![0; n],
+            schedule: vec![snapshot[0]],
             snapshot,
             a: 0,
             b: 0,
+            minute: 0,
         };
         board.load(&Tuned);
         board.theirs = board.edges.clone();
@@ -118,6 +123,18 @@ impl Board {
 
     pub fn write(&mut self, version: &dyn Calls) -> u64 {
         version.write(&mut self.edges, &mut self.figures, &mut self.marks, &mut self.snapshot)
+    }
+
+    pub fn schedule_write(&mut self, version: &dyn Calls) -> u64 {
+        version.schedule_write(&self.schedule, self.minute, &mut self.snapshot)
+    }
+
+    pub fn schedule_next(&mut self, version: &dyn Calls) -> u64 {
+        version.schedule_next(&self.schedule, self.minute)
+    }
+
+    pub fn schedule_load(&mut self, version: &dyn Calls) -> u64 {
+        version.schedule_load(&mut self.edges, &mut self.figures, &mut self.marks, &self.schedule, self.minute)
     }
 
     pub fn score(&mut self, version: &dyn Calls) -> u64 {

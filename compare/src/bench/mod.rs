@@ -1,8 +1,9 @@
-//! The benchmark: each call on the same boards, the library beside the tuned version, medians and
-//! their ratio; then how many nodes a list works out. Nothing is asserted of a time.
+//! The benchmark: each call on the same boards, the library beside the tuned version, medians and their ratio; then how
+//! many nodes a list works out, and the calls of a schedule. Nothing is asserted of a time.
 
 mod board;
 mod cases;
+mod schedules;
 mod time;
 mod worked;
 
@@ -40,7 +41,7 @@ pub fn run(library: Option<&dyn Calls>) {
         println!("the library is not linked: only the tuned version is timed");
     }
     println!("medians of {ROUNDS} rounds of {BATCH} calls, in nanoseconds a call");
-    println!("{:<20}{:>5}{:>7}{:>12}{:>12}{:>8}", "call", "n", "links", "library", "tuned", "ratio");
+    println!("{:<20}{:>5}{:>8}{:>12}{:>12}{:>8}", "call", "n", "links", "library", "tuned", "ratio");
     let mut summary = Vec::new();
     for n in SIZES {
         for links in LINKS.into_iter().filter(|&links| links < n) {
@@ -67,6 +68,7 @@ pub fn run(library: Option<&dyn Calls>) {
         println!("{line}");
     }
     worked::run(&versions);
+    schedules::run(&versions);
 }
 
 /// A line for each version: how much faster the list is than scoring every node.
@@ -80,10 +82,11 @@ fn gains(versions: &[&dyn Calls], n: usize, links: usize, whole: &[f64], list: &
     versions.iter().zip(whole.iter().zip(list).map(|(whole, list)| whole / list)).map(line).collect()
 }
 
-fn print_line(name: &str, n: usize, links: usize, times: &[f64]) {
+/// A line of a table; `size` is how many links a node has, or how many records a schedule.
+fn print_line(name: &str, n: usize, size: usize, times: &[f64]) {
     let tuned = times[0];
     match times.get(1) {
-        Some(library) => println!("{name:<20}{n:>5}{links:>7}{library:>12.0}{tuned:>12.0}{:>8.2}", library / tuned),
-        None => println!("{name:<20}{n:>5}{links:>7}{:>12}{tuned:>12.0}{:>8}", "-", "-"),
+        Some(library) => println!("{name:<20}{n:>5}{size:>8}{library:>12.0}{tuned:>12.0}{:>8.2}", library / tuned),
+        None => println!("{name:<20}{n:>5}{size:>8}{:>12}{tuned:>12.0}{:>8}", "-", "-"),
     }
 }

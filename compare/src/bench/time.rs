@@ -4,10 +4,12 @@ use super::board::Board;
 use super::cases::Case;
 use crate::calls::Calls;
 use std::hint::black_box;
-use std::time::Instant;
+use std::time::{Duration, Instant};
 
 /// Rounds of which the median is taken.
 pub const ROUNDS: usize = 41;
+/// The fewest rounds, however long they take.
+const FEWEST_ROUNDS: usize = 3;
 /// Calls that are timed together in a round.
 pub const BATCH: usize = 32;
 
@@ -18,8 +20,17 @@ fn median(mut times: Vec<f64>) -> f64 {
 
 /// Nanoseconds of a call, for each version; their rounds alternate.
 pub fn time(case: &Case, versions: &[&dyn Calls]) -> Vec<f64> {
+    time_within(case, versions, Duration::MAX)
+}
+
+/// The same, with fewer rounds, but a few, where `ROUNDS` of them take longer than this.
+pub fn time_within(case: &Case, versions: &[&dyn Calls], limit: Duration) -> Vec<f64> {
     let mut times = vec![Vec::new(); versions.len()];
-    for _ in 0..ROUNDS {
+    let begun = Instant::now();
+    for round in 0..ROUNDS {
+        if round >= FEWEST_ROUNDS && begun.elapsed() > limit {
+            break;
+        }
         for (version, times) in versions.iter().zip(&mut times) {
             let mut boards = case.boards.clone();
             let start = Instant::now();

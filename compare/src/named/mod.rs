@@ -1,11 +1,16 @@
 //! Cases by name, each on every call that has the thing tested: the description's that the proofs leave to a run,
-//! the figures of small boards, what previews show and when they are refused, and the sheets that are written and when
-//! a write is refused.
+//! the figures of small boards, what previews show and when they are refused, the sheets that are written and when a
+//! write is refused, and of timed sheets the sheets at a minute, loads at a minute, next changes, and when these are
+//! refused.
 
 mod figures;
+mod next_changes;
 mod preview_refusals;
 mod previews;
 mod refusals;
+mod schedule_loads;
+mod schedule_refusals;
+mod schedules;
 mod sheet_refusals;
 mod sheets;
 
@@ -13,11 +18,13 @@ use crate::calls::Calls;
 use crate::memory::{Call, Kind, Memory};
 use crate::plain::packing::{edge_bytes, mark_bytes, pair_count, pair_index, put_bit};
 
-/// A board of n posts, with all that a call can be lent: of the lengths that n requires, one entry, and no links anywhere.
+/// A board of n posts, with all that a call can be lent: of the lengths that n requires, one entry, no links anywhere,
+/// and a timed sheet without records.
 struct Board<'a> {
     version: &'a dyn Calls,
     n: usize,
     lent: Memory,
+    minute: u16,
 }
 
 impl<'a> Board<'a> {
@@ -27,6 +34,7 @@ impl<'a> Board<'a> {
             figures: vec![0; 8 * n],
             marks: vec![0; mark_bytes(n)],
             snapshot: sheet(n, &links),
+            schedule: sheet(n, &[]),
             theirs: links.clone(),
             base: links.clone(),
             edges: links,
@@ -34,13 +42,18 @@ impl<'a> Board<'a> {
             scratch: vec![0; n],
             changes: vec![0; n],
         };
-        Board { version, n, lent }
+        Board { version, n, lent, minute: 0 }
+    }
+
+    /// What a call answers.
+    fn answer(&mut self, kind: Kind, a: usize, b: usize) -> u64 {
+        let call = Call { kind, n: self.n as u64, a: a as u64, b: b as u64, minute: self.minute };
+        self.lent.run(self.version, call)
     }
 
     /// The refusal of a call, 0 for acceptance.
     fn call(&mut self, kind: Kind, a: usize, b: usize) -> u64 {
-        let call = Call { kind, n: self.n as u64, a: a as u64, b: b as u64 };
-        kind.refusal(self.lent.run(self.version, call))
+        kind.refusal(self.answer(kind, a, b))
     }
 
     /// The refusal of a load of a sheet with these links.
@@ -83,6 +96,15 @@ impl<'a> Board<'a> {
 /// The sheet of a board.
 fn sheet(n: usize, links: &[u8]) -> Vec<u8> {
     [&[(n - 1) as u8], links].concat()
+}
+
+/// A record of a timed sheet: two posts, a from minute and a to minute.
+type Hours = (u8, u8, u16, u16);
+
+/// The timed sheet of n posts with these records.
+fn timed(n: usize, records: &[Hours]) -> Vec<u8> {
+    let bytes = |&(a, b, from, to): &Hours| [&[a, b][..], &from.to_be_bytes(), &to.to_be_bytes()].concat();
+    sheet(n, &records.iter().flat_map(bytes).collect::<Vec<_>>())
 }
 
 /// The links of a board.
@@ -153,5 +175,9 @@ pub fn run(version: &dyn Calls) -> Result<(), String> {
     previews::run(version)?;
     run_refused(version, "preview", &preview_refusals::CASES)?;
     sheets::run(version)?;
-    run_refused(version, "write", &sheet_refusals::CASES)
+    run_refused(version, "write", &sheet_refusals::CASES)?;
+    schedules::run(version)?;
+    schedule_loads::run(version)?;
+    next_changes::run(version)?;
+    run_refused(version, "timed sheet", &schedule_refusals::CASES)
 }

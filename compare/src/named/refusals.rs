@@ -14,11 +14,11 @@ fn full(version: &dyn Calls) -> Board<'_> {
     board(version, 42, &spokes(0, 1..=40))
 }
 
-/// The refusals of every call on a board of n posts. The link that is added is there to be removed, and neither preview
+/// The refusals of calls on a board of n posts. The link that is added is there to be removed, and neither preview
 /// alters it.
-fn every_call(version: &dyn Calls, n: usize) -> Vec<u64> {
+fn each_call(version: &dyn Calls, n: usize, kinds: impl Iterator<Item = Kind>) -> Vec<u64> {
     let mut board = Board::new(version, n);
-    KINDS.map(|kind| board.call(kind, 0, 255)).to_vec()
+    kinds.map(|kind| board.call(kind, 0, 255)).collect()
 }
 
 /// The refusals of both lists on boards of several sizes, of as many entries as `k` gives for n posts.
@@ -46,8 +46,10 @@ pub const CASES: [Case; 17] = [
     ("the 41st link is refusal 12 of reconcile", 12, |version| {
         vec![Board::new(version, 42).reconcile(star(1..=41)), full(version).reconcile(star(41..=41))]
     }),
-    ("n = 256 is accepted by every call", 0, |version| every_call(version, 256)),
-    ("257 figures are refusal 1 of every call", 1, |version| every_call(version, 257)),
+    ("n = 256 is accepted by every call", 0, |version| each_call(version, 256, KINDS.into_iter())),
+    ("257 figures are refusal 1 of every call of a slate", 1, |version| {
+        each_call(version, 257, KINDS.into_iter().filter(|kind| kind.has_state()))
+    }),
     ("k = n is accepted by both lists", 0, |version| lists_of(version, |n| n)),
     ("k = n + 1 is refusal 8 of both lists", 8, |version| lists_of(version, |n| n + 1)),
     ("k = 0 is refusal 8 of both lists", 8, |version| lists_of(version, |_| 0)),

@@ -5,7 +5,7 @@ use crate::calls::Calls;
 use crate::memory::{Kind, Memory};
 
 /// The link bytes of 42 posts where post 0 is linked to the posts 1 to 40: bits 0, 1, 3, 6, 10 and so on to 780.
-const STAR_OF_40: [[u8; 12]; 9] = [
+pub const STAR_OF_40: [[u8; 12]; 9] = [
     [0xD2, 0x21, 0x04, 0x08, 0x08, 0x04, 0x01, 0x00, 0x20, 0x02, 0x00, 0x10],
     [0x00, 0x40, 0x00, 0x80, 0x00, 0x80, 0x00, 0x40, 0x00, 0x10, 0x00, 0x02],
     [0x00, 0x00, 0x20, 0x00, 0x01, 0x00, 0x00, 0x04, 0x00, 0x00, 0x08, 0x00],
@@ -18,7 +18,7 @@ const STAR_OF_40: [[u8; 12]; 9] = [
 ];
 
 /// A sheet of this length whose bytes are 0 but for these, each with its place.
-fn sparse(length: usize, bytes: &[(usize, u8)]) -> Vec<u8> {
+pub fn sparse(length: usize, bytes: &[(usize, u8)]) -> Vec<u8> {
     let mut sheet = vec![0; length];
     bytes.iter().for_each(|&(place, byte)| sheet[place] = byte);
     sheet

@@ -3,7 +3,7 @@
 use super::refusal::{refuse_if, Refusal};
 use super::score::Scorer;
 use super::state::{check_node_count, State};
-use super::{clear, edit, list, preview, reconcile, score, snapshot};
+use super::{clear, edit, list, preview, reconcile, schedule, score, snapshot};
 use crate::calls::{Calls, Entry};
 
 /// The plain version with one of its two ways to score.
@@ -81,6 +81,25 @@ impl Calls for Plain {
 
     fn write(&self, edges: &mut [u8], figures: &mut [u64], marks: &mut [u8], snapshot: &mut [u8]) -> u64 {
         number(snapshot::write(State { edges, figures, marks }, snapshot))
+    }
+
+    fn schedule_write(&self, schedule: &[u8], minute: u16, snapshot: &mut [u8]) -> u64 {
+        number(schedule::write(schedule, minute, snapshot))
+    }
+
+    fn schedule_next(&self, schedule: &[u8], minute: u16) -> u64 {
+        value(schedule::next(schedule, minute))
+    }
+
+    fn schedule_load(
+        &self,
+        edges: &mut [u8],
+        figures: &mut [u64],
+        marks: &mut [u8],
+        schedule: &[u8],
+        minute: u16,
+    ) -> u64 {
+        number(schedule::load(State { edges, figures, marks }, schedule, minute))
     }
 
     fn reconcile(&self, edges: &mut [u8], figures: &mut [u64], marks: &mut [u8], theirs: &[u8], base: &[u8]) -> u64 {

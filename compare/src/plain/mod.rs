@@ -15,6 +15,7 @@ pub mod preview;
 pub mod reconcile;
 pub mod refusal;
 pub mod replay;
+pub mod schedule;
 pub mod score;
 pub mod script;
 pub mod snapshot;

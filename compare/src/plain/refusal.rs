@@ -1,4 +1,5 @@
-//! Why a call turns back. The numbers are the description's, in the order in which they are tested.
+//! Why a call turns back. The numbers are the description's, in the order in which they are tested; the calls of a
+//! schedule have an order of their own.
 
 #[derive(Clone, Copy, Debug, PartialEq, Eq)]
 pub enum Refusal {
@@ -18,17 +19,23 @@ pub enum Refusal {
     NoSuchEdge = 7,
     /// k is 0 or above n.
     EntryCount = 8,
-    /// A snapshot is empty, has a wrong length or spare bits that are not 0.
+    /// A snapshot is empty, has a wrong length or spare bits that are not 0; a schedule is empty, or not its first byte
+    /// and whole records.
     BadSnapshot = 9,
-    /// A snapshot's node count differs from the state's.
+    /// A snapshot's or a schedule's node count differs from the state's.
     OtherNodeCount = 10,
     /// Before the call a node has more than `MAX_DEGREE` edges.
     Crowded = 11,
-    /// After the call a node would have more than `MAX_DEGREE` edges.
+    /// After the call, or in a schedule's snapshot, a node would have more than `MAX_DEGREE` edges.
     WouldCrowd = 12,
+    /// A record's from is not below its to.
+    NoHours = 13,
 }
 
 impl Refusal {
+    /// The largest number.
+    pub const LAST: u64 = Refusal::NoHours as u64;
+
     /// The number that a call answers with.
     pub fn number(self) -> u64 {
         self as u64

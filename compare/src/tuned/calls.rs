@@ -1,6 +1,6 @@
 //! The tuned version behind the C functions' signatures.
 
-use super::{edit, list, merge, preview, score, snapshot};
+use super::{edit, list, merge, next_change, preview, schedule, score, snapshot};
 use crate::calls::{Calls, Entry};
 
 pub struct Tuned;
@@ -40,6 +40,25 @@ impl Calls for Tuned {
 
     fn write(&self, edges: &mut [u8], figures: &mut [u64], marks: &mut [u8], snapshot: &mut [u8]) -> u64 {
         snapshot::write(edges, figures, marks, snapshot)
+    }
+
+    fn schedule_write(&self, schedule: &[u8], minute: u16, snapshot: &mut [u8]) -> u64 {
+        schedule::write(schedule, minute, snapshot)
+    }
+
+    fn schedule_next(&self, schedule: &[u8], minute: u16) -> u64 {
+        next_change::next(schedule, minute).unwrap_or_else(u64::wrapping_neg)
+    }
+
+    fn schedule_load(
+        &self,
+        edges: &mut [u8],
+        figures: &mut [u64],
+        marks: &mut [u8],
+        schedule: &[u8],
+        minute: u16,
+    ) -> u64 {
+        schedule::load(edges, figures, marks, schedule, minute)
     }
 
     fn reconcile(&self, edges: &mut [u8], figures: &mut [u64], marks: &mut [u8], theirs: &[u8], base: &[u8]) -> u64 {

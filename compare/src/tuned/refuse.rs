@@ -12,6 +12,7 @@ pub const BAD_SNAPSHOT: u64 = 9;
 pub const OTHER_NODE_COUNT: u64 = 10;
 pub const CROWDED: u64 = 11;
 pub const WOULD_CROWD: u64 = 12;
+pub const NO_HOURS: u64 = 13;
 
 pub const LIMIT: usize = 40;
 pub const UNIT: u64 = 5_342_931_457_063_200;

@@ -28,6 +28,12 @@ pub fn load(edges: &mut [u8], figures: &mut [u64], marks: &mut [u8], snapshot: &
     if stated != n {
         return OTHER_NODE_COUNT;
     }
+    put(edges, figures, marks, bits)
+}
+
+/// Puts these edges, whose spare bits are 0, into a state of the same lengths: refusal 12, or 0.
+pub fn put(edges: &mut [u8], figures: &mut [u64], marks: &mut [u8], bits: &[u8]) -> u64 {
+    let n = figures.len();
     let (rows, degrees) = rows(bits, n);
     if any_over(&degrees[..n]) {
         return WOULD_CROWD;

@@ -10,8 +10,8 @@ use native.Mathlib.Numerals.{add-one}
 use native.Mathlib.Omega.{arith}
 use borrow.Author.Tests.{eqb-true}
 use lib.Dec.{eqb}
-use lib.ListN.{getD, getD-replicate, length, length-append, length-replicate, length-set, List·getD-append, replicate, set}
-use lib.Seq.{ext-getD, getD-at, getD-set-other, getD-set-same}
+use lib.ListN.{getD, getD-replicate, length, length-append, length-replicate, length-set, List·getD-append, replicate, set, take}
+use lib.Seq.{ext-getD, getD-at, getD-set-other, getD-set-same, take-suc}
 use Rattle.arith.proofs.Tests.{each, each-at, test}
 use Rattle.arith.specs.Sums.{anyTo, bit, countTo, sumTo, tabulate}
 use Rattle.arith.specs.inside.Fill.{fillTo}
@@ -176,6 +176,20 @@ anyTo-here p (suc n) i h e = elim (decLt i n) [
   | no l ↦ let s : n ≡ i = omega arith in rw (ap p s ∙ e) (or-true (anyTo p n))
 ]
 
+-- a number below the end that passes
+pub record Some (f : ℕ → Bool) (n : ℕ) : Type 0 where
+  pub at : ℕ
+  pub inside : at < n
+  pub passes : f at ≡ true
+
+pub some-of : (f : ℕ → Bool) (n : ℕ) → anyTo f n ≡ true → Some f n
+unfolding anyTo
+some-of f zero e = absurd (true≢false (sym e))
+some-of f (suc n) e = elim (test (anyTo f n)) [
+  | inl t ↦ let s : Some f n = some-of f n t in record { at = s .at; inside = omega (arith, s .inside); passes = s .passes }
+  | inr t ↦ record { at = n; inside = omega arith; passes = rw t at e }
+]
+
 pub anyTo-false : (p : ℕ → Bool) (n : ℕ) → anyTo p n ≡ false → (i : ℕ) → i < n → p i ≡ false
 anyTo-false p n e i h = elim (test (p i)) [ inl t ↦ absurd (true≢false (sym (anyTo-here p n i h t) ∙ e)) | inr t ↦ t ]
 
@@ -220,6 +234,14 @@ module _ {A : Type 0} where
   unfolding tabulate
   tabulate-first f zero = refl
   tabulate-first f (suc n) = ap (λ l. l ++ f (suc n) ∷ []) (tabulate-first f n)
+
+  -- the first m of them
+  pub take-tabulate : (f : ℕ → A) (m n : ℕ) → m ≤ n → take m (tabulate f n) ≡ tabulate f m
+  unfolding tabulate
+  take-tabulate f zero n h = refl
+  take-tabulate f (suc m) n h =
+      take-suc (tabulate f n) m (f 0) (omega (arith, length-tabulate f n))
+      ∙ ap₂ (λ xs x. xs ++ x ∷ []) (take-tabulate f m n (omega arith)) (getD-tabulate f n m (f 0) h)
 
   -- only the elements below n count
   pub tabulate-ext : (f g : ℕ → A) (n : ℕ) → ((i : ℕ) → i < n → f i ≡ g i) → tabulate f n ≡ tabulate g n

@@ -166,6 +166,12 @@ module _ (edges : List ℕ) (n : ℕ) (small : Bytes edges) (long : length edges
         | no d ↦ getD-set-other edges last k r 0 d ∙ whole-byte edges n k (small k) (omega (arith, length-set edges last r))
       ]) ∙ ap (tabulate _) (length-set edges last r ∙ long)
 
+-- what is put in the place of all bytes after the first
+pub put-after : (x : ℕ) (xs rest : List ℕ) → putMid 1 (length (x ∷ xs) - 1) (x ∷ xs) rest ≡ x ∷ rest
+put-after x xs rest =
+    let end : suc (length xs) - 1 ≡ length xs = omega arith in
+    ap (λ after. x ∷ (rest ++ after)) (ap (λ m. drop m xs) end ∙ drop-length xs) ∙ ap (λ after. x ∷ after) (append-nil rest)
+
 -- the byte n - 1 is written in front of them
 pub sheet-is : (s : State) (buffer : List ℕ) {rest : List ℕ} → length buffer ≡ snapshotBytes (size s)
     → rest ≡ tabulate (λ k. snapshotByte (s .edges) (size s) (suc k)) (edgeBytes (size s))
@@ -174,11 +180,8 @@ unfolding snapshotOf snapshotByte
 sheet-is s [] l e = absurd (omega (arith, l))
 sheet-is s (x ∷ xs) {rest} l e =
     let f = snapshotByte (s .edges) (size s) in
-    let first = size s - 1 in
     let more : snapshotBytes (size s) ≡ suc (edgeBytes (size s)) = omega arith in
-    let end : suc (length xs) - 1 ≡ length xs = omega arith in
-    ap (λ after. first ∷ (rest ++ after)) (ap (λ m. drop m xs) end ∙ drop-length xs) ∙ ap (λ after. first ∷ after) (append-nil rest ∙ e)
-    ∙ sym (ap (tabulate f) more ∙ tabulate-first f (edgeBytes (size s)))
+    put-after (size s - 1) xs rest ∙ ap (λ after. (size s - 1) ∷ after) e ∙ sym (ap (tabulate f) more ∙ tabulate-first f (edgeBytes (size s)))
 
 -- ---- how a write ends
 

@@ -57,7 +57,7 @@ module _ {s t : State} (h : Alike s t) (cs ds : List Condition) where
 -- ---- clear, load and write
 
 module _ {s t : State} (h : Alike s t) where
-  same-build : (build : ℕ → State) → Alike (build (size s)) (build (size t))
+  pub same-build : (build : ℕ → State) → Alike (build (size s)) (build (size t))
   same-build build = subst (λ n. Alike (build (size s)) (build n)) (alike-nodes h) (alike-refl (build (size s)))
 
   pub clear-alike : AlikeOutcome (clearCall s) (clearCall t)

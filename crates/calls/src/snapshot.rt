@@ -57,7 +57,7 @@ fn form_refusal(n: usize, snapshot: &[u8]) -> u64
 }
 
 // Copies bytes to a slice of their length.
-fn copy(to: &mut [u8], from: &[u8])
+pub fn copy(to: &mut [u8], from: &[u8])
     requires { ⌜ length (now to) ≡ length (now from) ⌝ }
     ensures { λ _. ⌜ now (to .exit) ≡ now (from .entry) ⌝ }
 {

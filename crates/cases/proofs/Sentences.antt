@@ -10,7 +10,7 @@ use Rattle.cases.proofs.Reflect.{always, bits, both, everywhere, lists,
 use Rattle.ego.specs.Graph.{Graph}
 use Rattle.ego.specs.Score.{score}
 use Rattle.history.specs.History.{edits, Effect, filledWith, firstK, firstOf, links, nodes, OfEdit, OfList, others, refusal, Says, Sentence, settled, settles, stale, worked}
-use Rattle.history.specs.Model.{add, asRecords, Call, clear, Entries, inRow, list, load, model, modelRefusal, reconcile, remove, room}
+use Rattle.history.specs.Model.{add, asRecords, Call, clear, Entries, inRow, list, load, loadAt, model, modelRefusal, reconcile, remove, room}
 use Rattle.state.specs.Refusal.{touched}
 use Rattle.state.specs.State.{figure, graph, isStale, size, State}
 use Rattle.topk.specs.declared.entries.Entry.{Entry}
@@ -55,6 +55,7 @@ entries-same (asRecords xs) (asRecords ys) = said-as (ap asRecords) (ap (records
 abbrev whereListed : Call → (Entries → Bool) → Bool
 whereListed clear f = true
 whereListed (load snapshot) f = true
+whereListed (loadAt schedule t) f = true
 whereListed (add a b) f = true
 whereListed (remove a b) f = true
 whereListed (reconcile theirs base) f = true
@@ -64,6 +65,7 @@ of-list : (call : Call) {P : Entries → Type 0} (f : Entries → Bool) → ((en
     → Reflects (OfList call P) (whereListed call f)
 of-list clear f r = always
 of-list (load snapshot) f r = always
+of-list (loadAt schedule t) f r = always
 of-list (add a b) f r = always
 of-list (remove a b) f r = always
 of-list (reconcile theirs base) f r = always
@@ -72,6 +74,7 @@ of-list (list entries scratch) f r = r entries
 abbrev ofEdit : Call → (ℕ → ℕ → Bool) → Bool
 ofEdit clear f = true
 ofEdit (load snapshot) f = true
+ofEdit (loadAt schedule t) f = true
 ofEdit (add a b) f = f a b
 ofEdit (remove a b) f = f a b
 ofEdit (reconcile theirs base) f = true
@@ -81,6 +84,7 @@ of-edit : (call : Call) {P : ℕ → ℕ → Type 0} (f : ℕ → ℕ → Bool) 
     → Reflects (OfEdit call P) (ofEdit call f)
 of-edit clear f r = always
 of-edit (load snapshot) f r = always
+of-edit (loadAt schedule t) f r = always
 of-edit (add a b) f r = r a b
 of-edit (remove a b) f r = r a b
 of-edit (reconcile theirs base) f r = always

@@ -5,10 +5,11 @@ use Rattle.calls.proofs.Spare.{AlikeOutcome, clear-alike, load-alike, score-ali
 use Rattle.calls.proofs.SpareZero.{clear-zero, load-zero}
 use Rattle.edits.proofs.Spare.{add-alike, add-spare, remove-alike, remove-spare}
 use Rattle.history.specs.History.{stateAfter, answer, effect, ofState, starts}
-use Rattle.history.specs.Model.{add, asRecords, Call, clear, inRow, list, load, reconcile, remove}
+use Rattle.history.specs.Model.{add, asRecords, Call, clear, inRow, list, load, loadAt, reconcile, remove}
 use Rattle.history.specs.Spare.{AlikeCalls, AlikeEffects, reconciling, same, SpareBits}
 use Rattle.listing.proofs.Spare.{entries-alike, entries-spare}
 use Rattle.merge.proofs.Spare.{reconcile-alike, reconcile-spare}
+use Rattle.schedule.proofs.Spare.{load-at-alike, load-at-zero}
 use Rattle.state.proofs.Spare.{same-refl}
 use Rattle.state.specs.Outcome.{Outcome}
 use Rattle.state.specs.Spare.{Alike, SpareKept, SpareZero}
@@ -23,6 +24,7 @@ module _ (s t : State) (h : Alike s t) where
   unfolding effect
   call-alike clear = of-state (clear-alike h)
   call-alike (load snapshot) = of-state (load-alike h snapshot)
+  call-alike (loadAt schedule t) = of-state (load-at-alike h schedule t)
   call-alike (add a b) = of-state (add-alike h a b)
   call-alike (remove a b) = of-state (remove-alike h a b)
   call-alike (reconcile theirs base) = of-state (reconcile-alike h (same-refl theirs) (same-refl base))
@@ -42,6 +44,7 @@ zeroed : (s : State) (call : Call) → starts call ≡ true → answer s call �
 unfolding effect
 zeroed s clear e z = clear-zero s z
 zeroed s (load snapshot) e z = load-zero s snapshot z
+zeroed s (loadAt schedule t) e z = load-at-zero s schedule t z
 zeroed s (add a b) e z = absurd (true≢false (sym e))
 zeroed s (remove a b) e z = absurd (true≢false (sym e))
 zeroed s (reconcile theirs base) e z = absurd (true≢false (sym e))
@@ -51,6 +54,7 @@ kept : (s : State) (call : Call) → starts call ≡ false → SpareKept s (stat
 unfolding effect
 kept s clear e = absurd (true≢false e)
 kept s (load snapshot) e = absurd (true≢false e)
+kept s (loadAt schedule t) e = absurd (true≢false e)
 kept s (add a b) e = add-spare s a b
 kept s (remove a b) e = remove-spare s a b
 kept s (reconcile theirs base) e = reconcile-spare s theirs base

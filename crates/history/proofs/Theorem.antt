@@ -5,9 +5,9 @@ use mathlib.Core.Path.{subst, sym, _∙_, _≡_}
 use Prim.Native.Nat.{ℕ}
 use Rattle.ego.specs.Graph.{Graph}
 use Rattle.history.proofs.ListStep.{list-first, list-others, list-settles, list-worked}
-use Rattle.history.proofs.Steps.{add-answer, add-sound, add-untouched, clear-answer, clear-fits, clear-sound, list-answer, list-sound, load-answer, load-fits, load-sound, reconcile-answer, reconcile-sound, remove-answer, remove-sound, remove-untouched}
+use Rattle.history.proofs.Steps.{add-answer, add-sound, add-untouched, clear-answer, clear-fits, clear-sound, list-answer, list-sound, load-answer, load-at-answer, load-at-fits, load-at-sound, load-fits, load-sound, reconcile-answer, reconcile-sound, remove-answer, remove-sound, remove-untouched}
 use Rattle.history.specs.History.{stateAfter, answer, Demand3, edits, effect, firstK, links, nodes, others, Promise, Promises, refusal, Says, Sentence, settled, settles, stale, starts, worked}
-use Rattle.history.specs.Model.{add, Call, clear, list, load, model, modelRefusal, noPairs, reconcile, remove}
+use Rattle.history.specs.Model.{add, Call, clear, list, load, loadAt, model, modelRefusal, noPairs, reconcile, remove}
 use Rattle.edits.proofs.Sound.{Sound, sound-above, sound-settled}
 use Rattle.state.specs.State.{size, State}
 
@@ -39,6 +39,9 @@ step s g clear h = let i = clear-sound s g (h .shows .fits) in (i, promise s g c
 step s g (load snapshot) h =
     let i = load-sound s g (h .shows .fits) snapshot (λ d. h) in
     (i, promise s g (load snapshot) i (load-answer s g (h .shows .fits) snapshot) tt tt tt tt tt)
+step s g (loadAt schedule t) h =
+    let i = load-at-sound s g (h .shows .fits) schedule t (λ d. h) in
+    (i, promise s g (loadAt schedule t) i (load-at-answer s g (h .shows .fits) schedule t) tt tt tt tt tt)
 step s g (add a b) h = let i = add-sound s g h a b in (i, promise s g (add a b) i (add-answer s g h a b) tt tt tt tt (add-untouched s g h a b))
 step s g (remove a b) h = let i = remove-sound s g h a b in (i, promise s g (remove a b) i (remove-answer s g h a b) tt tt tt tt (remove-untouched s g h a b))
 step s g (reconcile theirs base) h =
@@ -62,6 +65,11 @@ begin s (load snapshot) e z =
     let r = load-answer s noPairs f snapshot in
     let i = load-sound s noPairs f snapshot (λ d. absurd (d (sym r ∙ z))) in
     (i, promise s noPairs (load snapshot) i r tt tt tt tt tt)
+begin s (loadAt schedule t) e z =
+    let f = load-at-fits s schedule t z in
+    let r = load-at-answer s noPairs f schedule t in
+    let i = load-at-sound s noPairs f schedule t (λ d. absurd (d (sym r ∙ z))) in
+    (i, promise s noPairs (loadAt schedule t) i r tt tt tt tt tt)
 begin s (add a b) e z = absurd (true≢false (sym e))
 begin s (remove a b) e z = absurd (true≢false (sym e))
 begin s (reconcile theirs base) e z = absurd (true≢false (sym e))

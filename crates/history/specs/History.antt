@@ -14,12 +14,13 @@ use Rattle.calls.specs.Clear.{clearCall}
 use Rattle.calls.specs.Snapshot.{loadCall}
 use Rattle.edits.specs.Edit.{addCall, removeCall}
 use Rattle.merge.specs.Reconcile.{reconcileCall}
+use Rattle.schedule.specs.Sheet.{loadAtCall}
 use Rattle.topk.specs.Entries.{over}
 use Rattle.topk.specs.declared.entries.Entry.{Entry}
 use Rattle.topk.specs.List.{Listed, listCall}
 use Rattle.listing.specs.Records.{entriesCall}
 use Rattle.topk.specs.Ranking.{ranking, worksOut}
-use Rattle.history.specs.Model.{Call, clear, load, add, remove, reconcile, list, Entries, inRow, asRecords, room, noPairs, model, modelRefusal}
+use Rattle.history.specs.Model.{Call, clear, load, loadAt, add, remove, reconcile, list, Entries, inRow, asRecords, room, noPairs, model, modelRefusal}
 
 -- What a call leaves: the refusal number that it answers, and the state; of a list also the worked count, the entries and the scratch.
 pub record Effect : Type 0 where
@@ -39,6 +40,7 @@ ofList lent l = record { answer = l .refusal; after = l .after; recomputed = l .
 unfoldable pub effect : State → Call → Effect
 effect s clear = ofState (clearCall s)
 effect s (load snapshot) = ofState (loadCall s snapshot)
+effect s (loadAt schedule t) = ofState (loadAtCall s schedule t)
 effect s (add a b) = ofState (addCall s a b)
 effect s (remove a b) = ofState (removeCall s a b)
 effect s (reconcile theirs base) = ofState (reconcileCall s theirs base)
@@ -66,6 +68,7 @@ filledWith xs (asRecords records) = asRecords xs
 abbrev pub OfList : Call → (Entries → Type 0) → Type 0
 OfList clear P = Unit {0}
 OfList (load snapshot) P = Unit {0}
+OfList (loadAt schedule t) P = Unit {0}
 OfList (add a b) P = Unit {0}
 OfList (remove a b) P = Unit {0}
 OfList (reconcile theirs base) P = Unit {0}
@@ -75,6 +78,7 @@ OfList (list entries scratch) P = P entries
 abbrev pub OfEdit : Call → (ℕ → ℕ → Type 0) → Type 0
 OfEdit clear P = Unit {0}
 OfEdit (load snapshot) P = Unit {0}
+OfEdit (loadAt schedule t) P = Unit {0}
 OfEdit (add a b) P = P a b
 OfEdit (remove a b) P = P a b
 OfEdit (reconcile theirs base) P = Unit {0}
@@ -124,10 +128,11 @@ abbrev pub Promises : ℕ → State → Graph → List Call → Type 0
 Promises n s g [] = Unit {0}
 Promises n s g (call ∷ calls) = Promise n s g call (effect s call) × Promises n (stateAfter s call) (model n g call) calls
 
--- A history begins with a clear or a load that is accepted, on any state.
+-- A history begins with a clear or a load that is accepted, on any state; a schedule that is loaded at a minute starts one as any load does.
 abbrev pub starts : Call → Bool
 starts clear = true
 starts (load snapshot) = true
+starts (loadAt schedule t) = true
 starts (add a b) = false
 starts (remove a b) = false
 starts (reconcile theirs base) = false

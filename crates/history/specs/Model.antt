@@ -1,6 +1,6 @@
 -- The plain model (01's book). It is fed n and what each call brings, no answers and nothing read from the state. Assumes nothing.
 use mathlib.Core.Bool.{_&&_, cond, false, true}
-use mathlib.Core.List.{[], List, _∷_}
+use mathlib.Core.List.{[], List, _∷_, _++_}
 use Prim.Native.Nat.{ℕ}
 use lib.Dec.{eqb, ltb}
 use lib.ListN.{length}
@@ -12,6 +12,8 @@ use Rattle.packed.specs.Edges.{edge}
 use Rattle.edits.specs.Edit.{addConditions, removeConditions}
 use Rattle.state.specs.Refusal.{Condition, nodeCount, refusal, snapshotEdges}
 use Rattle.calls.specs.Snapshot.{loadConditions}
+use Rattle.schedule.specs.Schedule.{badSchedule, linkedAt}
+use Rattle.schedule.specs.Sheet.{loadAtConditions}
 use Rattle.topk.specs.declared.entries.Entry.{Entry}
 use Rattle.topk.specs.List.{listConditions, wanted}
 
@@ -25,10 +27,11 @@ abbrev pub room : Entries → ℕ
 room (inRow numbers) = wanted numbers
 room (asRecords records) = length records
 
--- What a call brings besides the state: numbers, a sheet, theirs and the original, entries and scratch.
+-- What a call brings besides the state: numbers, a sheet, a schedule and a minute, theirs and the original, entries and scratch.
 pub data Call : Type 0 where
   clear : Call
   load : List ℕ → Call
+  loadAt : List ℕ → ℕ → Call
   add : ℕ → ℕ → Call
   remove : ℕ → ℕ → Call
   reconcile : List ℕ → List ℕ → Call
@@ -38,11 +41,13 @@ pub data Call : Type 0 where
 abbrev pub noPairs : Graph
 noPairs a b = false
 
--- The pairs that it would hold after the call. Clear empties it. Load makes it the sheet's pairs. Add puts its pair in. Remove takes its pair out.
+-- The pairs that it would hold after the call. Clear empties it. Load makes it the sheet's pairs; of a schedule, those that exist at the minute (02).
+-- Add puts its pair in. Remove takes its pair out.
 -- Reconcile: a pair where theirs differs from the original becomes as in theirs; every other pair stays. List leaves it.
 unfoldable pub wouldHold : Graph → Call → Graph
 wouldHold g clear = noPairs
 wouldHold g (load snapshot) = edge (snapshotEdges snapshot)
+wouldHold g (loadAt schedule t) = linkedAt schedule t
 wouldHold g (add a b) = withPair g a b true
 wouldHold g (remove a b) = withPair g a b false
 wouldHold g (reconcile theirs base) = λ a b. cond (differ (edge theirs a b) (edge base a b)) (edge theirs a b) (g a b)
@@ -52,15 +57,26 @@ wouldHold g (list entries scratch) = g
 unfoldable pub ownConditions : ℕ → Graph → Call → List Condition
 ownConditions n g clear = []
 ownConditions n g (load snapshot) = loadConditions n snapshot
+ownConditions n g (loadAt schedule t) = loadAtConditions n schedule t
 ownConditions n g (add a b) = addConditions n g (wouldHold g (add a b)) a b
 ownConditions n g (remove a b) = removeConditions n g a b
 ownConditions n g (reconcile theirs base) = reconcileConditions n g (wouldHold g (reconcile theirs base)) theirs base
 ownConditions n g (list entries scratch) = listConditions n g (room entries) (length scratch)
 
--- 1 stands before them all. 2 stands among them for the buffers that a call brings; for the state's own it cannot apply, and the model does not see
--- them: the first call was accepted, so the state's lengths are those that n requires, and no call changes the length of what it is lent.
+-- 9 of a schedule is tested before 1.
+abbrev pub earlyConditions : Call → List Condition
+earlyConditions clear = []
+earlyConditions (load snapshot) = []
+earlyConditions (loadAt schedule t) = badSchedule schedule ∷ []
+earlyConditions (add a b) = []
+earlyConditions (remove a b) = []
+earlyConditions (reconcile theirs base) = []
+earlyConditions (list entries scratch) = []
+
+-- 1 stands before all the others. 2 stands among them for the buffers that a call brings; for the state's own it cannot apply, and the model does not
+-- see them: the first call was accepted, so the state's lengths are those that n requires, and no call changes the length of what it is lent.
 unfoldable pub conditions : ℕ → Graph → Call → List Condition
-conditions n g call = nodeCount n ∷ ownConditions n g call
+conditions n g call = earlyConditions call ++ nodeCount n ∷ ownConditions n g call
 
 -- The refusal number is the first such condition's, otherwise 0.
 unfoldable pub modelRefusal : ℕ → Graph → Call → ℕ

@@ -25,7 +25,7 @@ pub record AlikeEffects (e f : Effect) : Type 0 where
   pub entries : e .entries ≡ f .entries
   pub scratch : e .scratch ≡ f .scratch
 
--- What 01 says of spare bits. A clear and a load are the calls that may start a history. proofs/Spare has its proof.
+-- What 01 says of spare bits. A clear and the loads are the calls that may start a history. proofs/Spare has its proof.
 pub record SpareBits : Type 0 where
   -- No answer and no other byte depends on a spare bit,
   pub ignored : (s t : State) (c d : Call) → Alike s t → AlikeCalls (size s) c d → AlikeEffects (effect s c) (effect t d)

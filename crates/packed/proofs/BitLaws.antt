@@ -1,21 +1,21 @@
 -- The laws of packed bits: a bit that was written is read back, every other bit is as it was, the length and the bytes' range are kept, and a
 -- list of bytes is known by its bits. `get-is`, `on-is` and `off-is` say what the masks of the code compute. Assumes nothing.
-use mathlib.Core.Bool.{Bool, false, not, true}
+use mathlib.Core.Bool.{Bool, false, not, or-false, or-true, true, _||_}
 use mathlib.Core.List.{List}
 use mathlib.Core.Logic.{_≢_}
-use mathlib.Core.Path.{ap, ap₂, refl, _∙_, _≡_}
+use mathlib.Core.Path.{ap, ap₂, refl, sym, _∙_, _≡_}
 use Prim.Native.Nat.{_%_, _*_, _+_, _-_, _/_, _<_, _^_, suc, zero, ℕ, _≤_}
 use native.Mathlib.Decide.{decLt, ℕ-discrete}
 use native.Mathlib.Nat.{add-mul-div-right, add-mul-mod-self-right, div-add-mod, div-eq-of-lt, div-lt-iff-lt-mul, mod-eq-of-lt, mod-lt, mul-comm, mul-le-mul-right, one-mul, suc-mul, zero-add, zero-div, zero-mul}
 use native.Mathlib.Omega.{arith}
-use borrow.Author.Tests.{ne-eqb}
+use borrow.Author.Tests.{eq-eqb, ne-eqb}
 use lib.Bits.{bitAnd, bitOr}
 use lib.Dec.{eqb, lit<}
-use lib.ListN.{getD, getD-replicate, length, length-replicate, length-set, List·getD-eq-default, replicate, set}
+use lib.ListN.{getD, getD-replicate, length, length-replicate, length-set, List·getD-eq-default, replicate, set, take}
 use lib.Pow.{pow-lt, pow-pos}
 use lib.Seq.{ext-getD, getD-set-other, getD-set-same, set-out}
 use Rattle.arith.proofs.Digits.{and-not-is, and-pow, digit-two, mask-is, or-is, with-lt, with-other, with-same}
-use Rattle.arith.proofs.Sums.{getD-tabulate, length-tabulate}
+use Rattle.arith.proofs.Sums.{getD-tabulate, length-tabulate, take-tabulate}
 use Rattle.arith.proofs.Words.{bits-eq, pack-bit, pack-lt}
 use Rattle.arith.specs.Digits.{bitOf, digit, withDigit}
 use Rattle.arith.specs.Sums.{bit, packTo, tabulate}
@@ -157,16 +157,20 @@ digit-zero : (k : ℕ) → digit 0 k ≡ 0
 unfolding digit
 digit-zero k = rw (zero-div (2 ^ k))
 
+-- zeros, and past them
+zero-at : (m j : ℕ) → _≡_ {A = ℕ} (getD (replicate m 0) j 0) 0
+zero-at m j = elim (decLt j m) [
+  | yes h ↦ getD-replicate m j 0 0 h
+  | no h ↦ List·getD-eq-default (replicate m 0) 0 (omega (arith, length-replicate {A = ℕ} m 0))
+]
+
+bytes-zeros : (m : ℕ) → Bytes (replicate m 0)
+bytes-zeros m k = omega (arith, zero-at m k)
+
 -- no bit of zeros is set
 pub bit-zeros : (n i : ℕ) → bitAt (replicate n 0) i ≡ false
 unfolding bitAt bitOf
-bit-zeros n i = rw (zeros n (i / 8), digit-zero (7 - i % 8))
-  where
-    zeros : (m j : ℕ) → _≡_ {A = ℕ} (getD (replicate m 0) j 0) 0
-    zeros m j = elim (decLt j m) [
-      | yes h ↦ getD-replicate m j 0 0 h
-      | no h ↦ List·getD-eq-default (replicate m 0) 0 (omega (arith, length-replicate {A = ℕ} m 0))
-    ]
+bit-zeros n i = rw (zero-at n (i / 8), digit-zero (7 - i % 8))
 
 -- a bit past the bytes is not written
 pub with-bit-past : (x : List ℕ) (i : ℕ) (on : Bool) → length x ≤ i / 8 → withBit x i on ≡ x
@@ -192,6 +196,11 @@ pub bytes-bytesOf : (f : ℕ → Bool) (m : ℕ) → Bytes (bytesOf f m)
 unfolding bytesOf
 bytes-bytesOf = packed-lt 8 (lit< tt)
 
+-- the first bytes
+pub take-bytesOf : (f : ℕ → Bool) (m n : ℕ) → m ≤ n → take m (bytesOf f n) ≡ bytesOf f m
+unfolding bytesOf
+take-bytesOf f m n h = take-tabulate _ m n h
+
 -- bit j of byte k
 pub byte-bit : (xs : List ℕ) (k j : ℕ) → j < 8 → bitAt xs (8 * k + (7 - j)) ≡ bitOf (getD xs k 0) j
 unfolding bitAt
@@ -200,3 +209,26 @@ byte-bit xs k j h =
     let q : i / 8 ≡ k = omega arith in
     let d : 7 - i % 8 ≡ j = omega arith in
     ap₂ (λ m e. bitOf (getD xs m 0) e) q d
+
+-- one bit more is set
+pub set-bytesOf : (f : ℕ → Bool) (m p : ℕ) → p / 8 < m → withBit (bytesOf f m) p true ≡ bytesOf (λ i. f i || eqb p i) m
+set-bytesOf f m p h =
+    let g : ℕ → Bool = λ i. f i || eqb p i in
+    let long : length (withBit (bytesOf f m) p true) ≡ m = length-with-bit (bytesOf f m) p true ∙ length-bytesOf f m in
+    same-bits (withBit (bytesOf f m) p true) (bytesOf g m) (long ∙ sym (length-bytesOf g m)) (bytes-with-bit (bytesOf f m) p true (bytes-bytesOf f m))
+    (bytes-bytesOf g m) (λ i l.
+    let inside : i < 8 * m = omega (arith, long) in
+    elim (ℕ-discrete i p) [
+      | yes e ↦
+          ap (bitAt (withBit (bytesOf f m) p true)) e ∙ bit-with-same (bytesOf f m) p true (omega (arith, length-bytesOf f m))
+          ∙ sym (bit-bytesOf g m i inside ∙ ap (λ t. f i || t) (eq-eqb p i (sym e)) ∙ or-true (f i))
+      | no d ↦
+          bit-with-other (bytesOf f m) p i true d ∙ bit-bytesOf f m i inside
+          ∙ sym (bit-bytesOf g m i inside ∙ ap (λ t. f i || t) (ne-eqb p i (λ e. d (sym e))) ∙ or-false (f i))
+    ])
+
+-- none is
+pub clear-bytesOf : (f : ℕ → Bool) (m : ℕ) → ((i : ℕ) → f i ≡ false) → replicate m 0 ≡ bytesOf f m
+clear-bytesOf f m h =
+    same-bits (replicate m 0) (bytesOf f m) (length-replicate m 0 ∙ sym (length-bytesOf f m)) (bytes-zeros m) (bytes-bytesOf f m)
+    (λ i l. bit-zeros m i ∙ sym (bit-bytesOf f m i (omega (arith, length-replicate {A = ℕ} m 0)) ∙ h i))

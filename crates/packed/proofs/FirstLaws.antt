@@ -46,6 +46,30 @@ module _ (passes : ℕ → Bool) where
       let e : from + (to - from) ≡ to = omega (arith, f .start, f .stop) in
       least-from (to - from) from r (subst (λ t. FirstFrom passes from t r) (sym e) f)
 
+  -- and that least is the first
+  pub least-first : (from m : ℕ) → FirstFrom passes from (from + m) (leastFrom passes from m)
+  least-first from zero = record {
+    start = le-refl from;
+    stop = omega arith;
+    none = λ i a b. absurd (omega arith);
+    some = λ l. absurd (omega arith);
+  }
+  least-first from (suc m) = elim (test (passes from)) [
+    | inl t ↦ rw (leastFrom-hit passes from m t)
+        (record { start = le-refl from; stop = omega arith; none = λ i a b. absurd (omega arith); some = λ _. t })
+    | inr t ↦
+        let f = least-first (suc from) m in
+        rw (leastFrom-miss passes from m t) (record {
+          start = omega (arith, f .start);
+          stop = omega (arith, f .stop);
+          none = λ i a b. elim (decLt from i) [
+            | yes l ↦ f .none i l b
+            | no l ↦ let e : i ≡ from = omega arith in ap passes e ∙ t
+          ];
+          some = λ l. f .some (omega arith);
+        })
+  ]
+
   pub first-unique : {from to r r′ : ℕ} → FirstFrom passes from to r → FirstFrom passes from to r′ → r ≡ r′
   first-unique f g = first-least f ∙ sym (first-least g)
 

@@ -2,6 +2,7 @@ pub mod BitLaws
 pub mod DegreeLaws
 pub mod EdgeLaws
 pub mod FirstLaws
+pub mod GraphLaws
 pub mod PairLaws
 pub mod RowLaws
 pub mod RunLaws

@@ -9,13 +9,21 @@ ghost use Rattle.packed.specs.inside.Runs.{maxRun};
 pub const MAX_RUN: usize = 56;
 
 // The lesser of two numbers.
-pub(crate) fn least(a: usize, b: usize) -> usize
+pub fn least(a: usize, b: usize) -> usize
     ensures { λ r. ⌜ r ≡ min a b ⌝ }
 {
     if a < b {
         return a;
     }
     b
+}
+
+// The 16 bits from byte k on.
+pub fn half_at(bits: &[u8], k: usize) -> u16
+    requires { ⌜ k + 2 ≤ length (now bits) ⌝ }
+    ensures { λ r. ⌜ r ≡ runOf (now (bits .entry)) (8 * k) 16 ⌝ }
+{
+    bits[k] as u16 * 256 + bits[k + 1] as u16
 }
 
 // The 32 bits from byte k on.

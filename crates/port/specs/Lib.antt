@@ -1,2 +1,2 @@
--- Definitions of the list as the port answers it.
+-- What the port answers as one number.
 pub mod Port

@@ -1,4 +1,5 @@
--- The list as the port answers it: one number, and everything lent. Assumes nothing.
+-- What the port answers as one number: of a list, with everything lent, and of the next change. Assumes nothing.
+use mathlib.Core.Bool.{cond}
 use mathlib.Core.List.{List}
 use Prim.Native.Nat.{ℕ}
 use denote.Ref.{now}
@@ -9,6 +10,7 @@ use Rattle.topk.specs.declared.entries.Entry.{Entry}
 use Rattle.topk.specs.List.{Listed, listCall}
 use Rattle.topk.specs.ListLent.{EntryMoments}
 use Rattle.listing.specs.Records.{entriesCall}
+use Rattle.schedule.specs.Change.{minutes, Next}
 
 -- the answer, and everything lent as the call leaves it; the entries are numbers in a row, or records
 pub record Ported (A : Type 0) : Type 0 where
@@ -36,3 +38,7 @@ atPortEntry call links figures marks entries scratch = call (atEntry links figur
 
 abbrev pub atPortExit : {A : Type 0} → ℕ → Moments → Moments → Moments → EntryMoments A → Moments → Ported A
 atPortExit answer links figures marks entries scratch = ported answer (atExit links figures marks) (now (entries .exit)) (now (scratch .exit))
+
+-- the next change: the minute, and the number past the last minute for none
+abbrev pub asOneChange : Next → ℕ
+asOneChange x = oneNumber (x .refusal) (cond (x .some) (x .minute) minutes)

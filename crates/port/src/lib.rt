@@ -5,6 +5,10 @@ use listing::records::list_entries;
 use merge::reconcile::reconcile;
 use preview::preview::preview_add;
 use preview::preview::preview_remove;
+use schedule::change::Change;
+use schedule::change::next_change;
+use schedule::sheet::load_at;
+use schedule::sheet::write_at;
 use state::refusal::one_number;
 use topk::entries::Entry;
 use topk::list::Answer;
@@ -12,11 +16,13 @@ use topk::list::list;
 ghost use mathlib.Core.Path.{_≡_};
 ghost use Rattle.merge.specs.Reconcile.{reconcileCall};
 ghost use Rattle.preview.specs.Preview.{previewAddCall, previewed, previewRemoveCall};
+ghost use Rattle.schedule.specs.Change.{nextOf, numbersOf};
+ghost use Rattle.schedule.specs.Sheet.{loadAtCall, writeAtCall};
 ghost use Rattle.state.specs.Outcome.{left};
 ghost use Rattle.state.specs.Refusal.{oneNumber};
 ghost use Rattle.state.specs.Lent.{atEntry, atExit};
 ghost use Rattle.calls.specs.Snapshot.{loadCall, written, writeCall};
-ghost use Rattle.port.specs.Port.{atPortEntry, atPortExit, portEntries, portList};
+ghost use Rattle.port.specs.Port.{asOneChange, atPortEntry, atPortExit, portEntries, portList};
 
 // Loads a sheet.
 #[no_mangle]
@@ -121,4 +127,48 @@ pub extern "C" fn fj_port_preview_remove(
     ensures { λ r. ⌜ previewed r (now (changes .exit)) ≡ previewRemoveCall (atEntry links figures marks) (now (changes .entry)) a b ⌝ }
 {
     preview_remove(links, figures, marks, changes, a as usize, b as usize)
+}
+
+// Writes the sheet of a schedule at a minute.
+#[no_mangle]
+pub extern "C" fn fj_port_schedule_write(schedule: &[u8], minute: u16, sheet: &mut [u8]) -> u64
+    ensures { λ r. ⌜ written r (now (sheet .exit)) ≡ writeAtCall (now (schedule .entry)) minute (now (sheet .entry)) ⌝ }
+{
+    write_at(schedule, minute, sheet)
+}
+
+// Stands for no change, where a minute would stand.
+const NO_CHANGE: u64 = 65536;
+
+// A change as one number: the minute, or that there is none, or 2^64 less the refusal number.
+fn number_of_change(change: Change) -> u64
+    ensures { λ r. ⌜ r ≡ asOneChange (numbersOf change) ⌝ }
+{
+    match change {
+        Change::At { minute } => minute as u64,
+        Change::Never => NO_CHANGE,
+        Change::Refused { refusal } => one_number(refusal, NO_CHANGE),
+    }
+}
+
+// The first minute after `minute` at which a link of a schedule differs.
+#[no_mangle]
+pub extern "C" fn fj_port_schedule_next(schedule: &[u8], minute: u16) -> u64
+    ensures { λ r. ⌜ r ≡ asOneChange (nextOf (now (schedule .entry)) minute) ⌝ }
+{
+    number_of_change(next_change(schedule, minute))
+}
+
+// Loads the sheet of a schedule at a minute.
+#[no_mangle]
+pub extern "C" fn fj_port_schedule_load(
+    links: &mut [u8],
+    figures: &mut [u64],
+    marks: &mut [u8],
+    schedule: &[u8],
+    minute: u16,
+) -> u64
+    ensures { λ r. ⌜ left r (atExit links figures marks) ≡ loadAtCall (atEntry links figures marks) (now (schedule .entry)) minute ⌝ }
+{
+    load_at(links, figures, marks, schedule, minute)
 }

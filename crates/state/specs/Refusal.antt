@@ -98,3 +98,7 @@ crowdedBefore g n which = (11, tooMany g n which)
 -- 12. After the call a post would have more than 40; g is the graph after the call.
 unfoldable pub crowdedAfter : Graph → ℕ → (ℕ → Bool) → Condition
 crowdedAfter g n which = (12, tooMany g n which)
+
+-- 13. A record's from is not below its to. It is tested after 5.
+unfoldable pub noHours : ℕ → ℕ → Condition
+noHours from to = (13, leb to from)

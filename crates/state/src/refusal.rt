@@ -1,4 +1,4 @@
-// The refusal numbers, in the order in which a call tests what they stand for. A call that is accepted answers 0.
+// The refusal numbers. A call tests what they stand for in their order, but for 13, which comes after 5. A call that is accepted answers 0.
 ghost use mathlib.Core.Path.{_≡_};
 ghost use Rattle.state.specs.Refusal.{oneNumber};
 
@@ -37,6 +37,9 @@ pub const CROWDED_BEFORE: u64 = 11;
 
 // After the call a node would have more than LIMIT edges.
 pub const CROWDED_AFTER: u64 = 12;
+
+// A record's hours end where they begin, or before.
+pub const NO_HOURS: u64 = 13;
 
 // The answer to C as one number: the value beside an acceptance, or 2^64 less the refusal number.
 pub fn one_number(refusal: u64, value: u64) -> u64

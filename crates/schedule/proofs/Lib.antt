@@ -1,0 +1,13 @@
+pub mod CallLaws
+pub mod ChangeLaws
+pub mod DifferLaws
+pub mod NextChange
+pub mod NumberLaws
+pub mod OpenLaws
+pub mod PassLaws
+pub mod PlaceLaws
+pub mod RecordLaws
+pub mod SheetLaws
+pub mod Sheets
+pub mod Spare
+pub mod UntilLaws
