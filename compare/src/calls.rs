@@ -31,6 +31,10 @@ pub trait Calls {
         schedule: &[u8],
         minute: u16,
     ) -> u64;
+    /// The ordinary snapshot of a survey: the pairs of which the record that counts reaches a threshold.
+    fn survey_write(&self, survey: &[u8], n: u64, threshold: u64, snapshot: &mut [u8]) -> u64;
+    /// The position of the record of a survey that counts for a pair, or 2^63.
+    fn survey_position(&self, survey: &[u8], n: u64, a: u64, b: u64) -> u64;
     fn reconcile(&self, edges: &mut [u8], figures: &mut [u64], marks: &mut [u8], theirs: &[u8], base: &[u8]) -> u64;
     fn list(
         &self,

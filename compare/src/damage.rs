@@ -6,6 +6,7 @@ use crate::memory::{Call, Kind, Memory};
 use crate::plain::packing::{edge_bytes, mark_bytes};
 use crate::rng::Rng;
 use crate::schedule_damage::damage_schedule;
+use crate::survey_damage::damage_survey;
 
 /// What can go wrong with what a call is given.
 #[derive(Clone, Copy)]
@@ -18,6 +19,7 @@ enum Damage {
     SnapshotOfOther,
     SnapshotFirst,
     Schedule,
+    Survey,
     Theirs,
     Base,
     Entries,
@@ -62,6 +64,8 @@ fn chosen(rng: &mut Rng, kind: Kind) -> Damage {
         Kind::Write => &[Snapshot],
         Kind::ScheduleWrite => &[Schedule, Schedule, Snapshot],
         Kind::ScheduleNext | Kind::ScheduleLoad => &[Schedule],
+        Kind::SurveyWrite => &[Survey, Survey, Survey, Snapshot, N],
+        Kind::SurveyPosition => &[Survey, Survey, N, A, B, Same],
         Kind::Reconcile => &[Theirs, Base],
         Kind::List | Kind::ListEntries => &[Scratch, Entries],
     };
@@ -75,7 +79,7 @@ fn chosen(rng: &mut Rng, kind: Kind) -> Damage {
 /// One thing that the call is given goes wrong.
 pub fn damage(rng: &mut Rng, n: usize, memory: &mut Memory, call: &mut Call) {
     use Damage::*;
-    const NUMBERS: [u64; 8] = [0, 1, 255, 256, 257, 1 << 32, u64::MAX - 1, u64::MAX];
+    let numbers = [0, 1, 255, 256, 257, 1 << 32, (1 << 32) + n as u64, u64::MAX];
     let far = [n as u64, n as u64 + 1, 256, 1 << 32, 1 << 63, u64::MAX];
     match chosen(rng, call.kind) {
         Edges => resize(rng, &mut memory.edges),
@@ -84,6 +88,7 @@ pub fn damage(rng: &mut Rng, n: usize, memory: &mut Memory, call: &mut Call) {
         Scratch => resize(rng, &mut memory.scratch),
         Snapshot => resize(rng, &mut memory.snapshot),
         Schedule => damage_schedule(rng, &mut memory.schedule),
+        Survey => damage_survey(rng, n, &mut memory.survey),
         Theirs => resize(rng, &mut memory.theirs),
         Base => resize(rng, &mut memory.base),
         Entries => {
@@ -94,7 +99,7 @@ pub fn damage(rng: &mut Rng, n: usize, memory: &mut Memory, call: &mut Call) {
             let length = wrong_length(rng, memory.changes.len());
             memory.changes.resize(length, rng.next() as i64);
         }
-        N => call.n = rng.pick(&NUMBERS),
+        N => call.n = rng.pick(&numbers),
         A => call.a = rng.pick(&far),
         B => call.b = rng.pick(&far),
         Same => call.b = call.a,
@@ -104,13 +109,15 @@ pub fn damage(rng: &mut Rng, n: usize, memory: &mut Memory, call: &mut Call) {
                 *first = rng.next() as u8;
             }
         }
-        SnapshotOfOther => {
-            let other = node_count(rng);
-            memory.snapshot = vec![(other - 1) as u8];
-            memory.snapshot.extend(random_edges(rng, other));
-        }
+        SnapshotOfOther => memory.snapshot = other_snapshot(rng),
         OtherBoard => other_board(rng, n, memory, call),
     }
+}
+
+/// The snapshot of any number of nodes.
+fn other_snapshot(rng: &mut Rng) -> Vec<u8> {
+    let other = node_count(rng);
+    [vec![(other - 1) as u8], random_edges(rng, other)].concat()
 }
 
 /// Another n altogether, 0 and 257 among them, with every length as it requires.

@@ -4,9 +4,10 @@ use crate::crowd::crowd_one;
 use crate::memory::{Call, Kind, Memory};
 use crate::plain::graph::Graph;
 use crate::plain::limits::{MAX_DEGREE, UNIT};
-use crate::plain::packing::{bit, edge_bytes, mark_bytes, pair_count, pair_index, put_bit};
+use crate::plain::packing::{self, bit, edge_bytes, mark_bytes, pair_count, pair_index, put_bit};
 use crate::rng::Rng;
 use crate::schedules::schedule;
+use crate::surveys::survey;
 
 /// How full a board is.
 #[derive(Clone, Copy)]
@@ -54,7 +55,7 @@ fn edges(rng: &mut Rng, n: usize, fill: Fill) -> Vec<u8> {
         Fill::Edges(degree) | Fill::Crowded(degree) => n * degree / 2,
         Fill::Full => usize::MAX,
     };
-    let mut pairs: Vec<(usize, usize)> = (0..n).flat_map(|b| (0..b).map(move |a| (a, b))).collect();
+    let mut pairs: Vec<(usize, usize)> = packing::pairs(n).collect();
     rng.shuffle(&mut pairs);
     let mut degrees = vec![0; n];
     let mut placed = 0;
@@ -225,16 +226,28 @@ pub fn next_call(rng: &mut Rng, n: usize, memory: &mut Memory) -> Call {
         8..=9 => Kind::ScheduleWrite,
         10..=11 => Kind::ScheduleNext,
         12..=13 => Kind::ScheduleLoad,
-        14..=19 => Kind::Score,
-        20..=24 => Kind::PreviewAdd,
-        25..=52 => Kind::Add,
-        53..=57 => Kind::PreviewRemove,
-        58..=76 => Kind::Remove,
+        14..=15 => Kind::SurveyWrite,
+        16..=17 => Kind::SurveyPosition,
+        18..=23 => Kind::Score,
+        24..=28 => Kind::PreviewAdd,
+        29..=54 => Kind::Add,
+        55..=59 => Kind::PreviewRemove,
+        60..=76 => Kind::Remove,
         77..=83 => Kind::Reconcile,
         84..=91 => Kind::List,
         _ => Kind::ListEntries,
     };
     call_of_kind(rng, n, memory, kind)
+}
+
+/// The snapshot of a load.
+fn bring_snapshot(rng: &mut Rng, n: usize, memory: &mut Memory) {
+    memory.snapshot = vec![(n - 1) as u8];
+    memory.snapshot.extend(random_edges(rng, n));
+    if rng.chance(10) {
+        let used = 8 + pair_count(n);
+        set_spare(rng, &mut memory.snapshot, used);
+    }
 }
 
 /// Theirs and the base of a reconcile.
@@ -272,7 +285,7 @@ fn edited_pair(rng: &mut Rng, n: usize, edges: &[u8], removes: bool) -> (usize, 
 
 /// A call of this kind that is mostly accepted.
 pub fn call_of_kind(rng: &mut Rng, n: usize, memory: &mut Memory, kind: Kind) -> Call {
-    let mut call = Call { kind, n: n as u64, a: 0, b: 0, minute: 0 };
+    let mut call = Call { kind, n: n as u64, a: 0, b: 0, minute: 0, threshold: 0 };
     match kind {
         Kind::Clear => {}
         Kind::Score => call.a = rng.below(n) as u64,
@@ -288,18 +301,15 @@ pub fn call_of_kind(rng: &mut Rng, n: usize, memory: &mut Memory, kind: Kind) ->
                 approach(rng, n, memory, |graph| graph.common(a, b));
             }
         }
-        Kind::Load => {
-            memory.snapshot = vec![(n - 1) as u8];
-            memory.snapshot.extend(random_edges(rng, n));
-            if rng.chance(10) {
-                let used = 8 + pair_count(n);
-                set_spare(rng, &mut memory.snapshot, used);
-            }
-        }
+        Kind::Load => bring_snapshot(rng, n, memory),
         Kind::Write => memory.snapshot = rng.bytes(1 + edge_bytes(n)),
         Kind::ScheduleWrite | Kind::ScheduleNext | Kind::ScheduleLoad => {
             let n = if rng.chance(90) { n } else { node_count(rng) };
             (memory.schedule, call.minute) = schedule(rng, n, kind == Kind::ScheduleNext);
+            memory.snapshot = rng.bytes(1 + edge_bytes(n));
+        }
+        Kind::SurveyWrite | Kind::SurveyPosition => {
+            (memory.survey, call.threshold, (call.a, call.b)) = survey(rng, n);
             memory.snapshot = rng.bytes(1 + edge_bytes(n));
         }
         Kind::Reconcile => bring_theirs(rng, n, memory),

@@ -1,5 +1,5 @@
 //! The comparison of the proved library with an independent plain Rust version, a benchmark of
-//! both, and the tools that write and read scripts and schedules.
+//! both, and the tools that write and read scripts, schedules, surveys and sheets.
 
 pub mod bench;
 pub mod calls;
@@ -12,6 +12,9 @@ mod memory;
 pub mod named;
 pub mod plain;
 mod preview_check;
+mod record_damage;
+mod record_pairs;
+mod record_text;
 mod rng;
 pub mod run;
 mod schedule_check;
@@ -19,5 +22,9 @@ mod schedule_damage;
 pub mod schedule_text;
 mod schedules;
 pub mod scripts;
+pub mod sheet_text;
+mod survey_damage;
+pub mod survey_text;
+mod surveys;
 pub mod text;
 pub mod tuned;

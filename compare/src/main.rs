@@ -2,7 +2,7 @@
 
 use compare::calls::Calls;
 use compare::plain::replay::replay;
-use compare::{bench, ffi, named, run, schedule_text, scripts, text, tuned};
+use compare::{bench, ffi, named, run, schedule_text, scripts, sheet_text, survey_text, text, tuned};
 use std::env;
 use std::fs::File;
 use std::io::{self, Read, Write};
@@ -20,6 +20,13 @@ const USAGE: &str = "usage:
   compare unpack [FILE]                 a script to a text
   compare pack-schedule [FILE]          a text of opening hours to a schedule
   compare unpack-schedule [FILE]        a schedule to a text
+  compare pack-survey [FILE]            a text of what was heard to a survey
+  compare unpack-survey [FILE]          a survey to a text
+  compare survey-sheet N THRESHOLD [FILE]
+                                        the sheet of a survey for N posts, by the library
+  compare schedule-sheet MINUTE [FILE]  the sheet of a schedule at a minute, by the library; MINUTE
+                                        is a number, or a day and a time such as `wed 14:30`
+  compare sheet-script K [FILE]         a sheet to the text of a script that lists K posts
   compare replay-plain [FILE]           what the script program prints for a script";
 
 const DEFAULT_SEED: u64 = 1;
@@ -41,6 +48,11 @@ fn main() -> ExitCode {
         Some((&"unpack", rest)) => unpack(rest, text::unpack),
         Some((&"pack-schedule", rest)) => pack(rest, schedule_text::pack),
         Some((&"unpack-schedule", rest)) => unpack(rest, schedule_text::unpack),
+        Some((&"pack-survey", rest)) => pack(rest, survey_text::pack),
+        Some((&"unpack-survey", rest)) => unpack(rest, survey_text::unpack),
+        Some((&"survey-sheet", [n, threshold, rest @ ..])) => survey_sheet(n, threshold, rest),
+        Some((&"schedule-sheet", rest @ [_, ..])) => schedule_sheet(rest),
+        Some((&"sheet-script", [k, rest @ ..])) => sheet_script(k, rest),
         Some((&"replay-plain", rest)) => input(rest).and_then(|script| print(replay(&script).as_bytes())),
         _ => Err(USAGE.to_string()),
     };
@@ -59,9 +71,12 @@ fn library() -> Result<&'static dyn Calls, String> {
     })
 }
 
+fn number(word: &str) -> Result<u64, String> {
+    word.parse().map_err(|_| format!("expected a number, found `{word}`\n{USAGE}"))
+}
+
 /// The seed and the number of things to compare that the words give.
 fn seed_and_count(words: &[&str], default_count: usize) -> Result<(u64, usize), String> {
-    let number = |word: &str| word.parse::<u64>().map_err(|_| format!("expected a number, found `{word}`\n{USAGE}"));
     let seed = match words.first() {
         Some(&"random") => SystemTime::now().duration_since(UNIX_EPOCH).map_or(0, |past| past.as_nanos() as u64),
         Some(word) => number(word)?,
@@ -120,19 +135,38 @@ fn named_input(words: &[&str], message: String) -> String {
     format!("{}: {message}", words.first().unwrap_or(&"standard input"))
 }
 
-/// The bytes that a packer makes of a text.
-fn pack(words: &[&str], packer: fn(&str) -> Result<Vec<u8>, String>) -> Result<(), String> {
-    let bytes = input(words)?;
-    let text = String::from_utf8(bytes).map_err(|_| named_input(words, "expected text in UTF-8".to_string()))?;
-    let packed = packer(&text).map_err(|message| named_input(words, message))?;
-    print(&packed)
+/// Prints what is made of the input's bytes.
+fn convert(words: &[&str], made: impl FnOnce(&[u8]) -> Result<Vec<u8>, String>) -> Result<(), String> {
+    let made = made(&input(words)?).map_err(|message| named_input(words, message))?;
+    print(&made)
 }
 
-/// The text of some bytes, and what is wrong with them.
-type Unpacked = (String, Result<(), String>);
+/// The bytes that a packer makes of a text.
+fn pack(words: &[&str], packer: fn(&str) -> Result<Vec<u8>, String>) -> Result<(), String> {
+    convert(words, |bytes| packer(std::str::from_utf8(bytes).map_err(|_| "expected text in UTF-8")?))
+}
+
+/// The sheet of a survey, by the library.
+fn survey_sheet(n: &str, threshold: &str, words: &[&str]) -> Result<(), String> {
+    let (version, n, threshold) = (library()?, number(n)?, number(threshold)?);
+    convert(words, |survey| sheet_text::of_survey(version, n, threshold, survey))
+}
+
+/// The sheet of a schedule at the minute with which the words begin, by the library.
+fn schedule_sheet(words: &[&str]) -> Result<(), String> {
+    let version = library()?;
+    let (minute, words) = schedule_text::leading_minute(words)?;
+    convert(words, |schedule| sheet_text::of_schedule(version, minute, schedule))
+}
+
+/// The script's text of a sheet.
+fn sheet_script(k: &str, words: &[&str]) -> Result<(), String> {
+    let k = sheet_text::listed(k)?;
+    convert(words, |sheet| sheet_text::script(k, sheet).map(String::into_bytes))
+}
 
 /// The text that an unpacker makes of bytes, and its errors.
-fn unpack(words: &[&str], unpacker: fn(&[u8]) -> Unpacked) -> Result<(), String> {
+fn unpack(words: &[&str], unpacker: fn(&[u8]) -> text::Unpacked) -> Result<(), String> {
     let (text, done) = unpacker(&input(words)?);
     print(text.as_bytes())?;
     done.map_err(|message| named_input(words, message))

@@ -12,6 +12,8 @@ pub enum Kind {
     ScheduleWrite,
     ScheduleNext,
     ScheduleLoad,
+    SurveyWrite,
+    SurveyPosition,
     Score,
     PreviewAdd,
     Add,
@@ -22,13 +24,15 @@ pub enum Kind {
     ListEntries,
 }
 
-pub const KINDS: [Kind; 14] = [
+pub const KINDS: [Kind; 16] = [
     Kind::Clear,
     Kind::Load,
     Kind::Write,
     Kind::ScheduleWrite,
     Kind::ScheduleNext,
     Kind::ScheduleLoad,
+    Kind::SurveyWrite,
+    Kind::SurveyPosition,
     Kind::Score,
     Kind::PreviewAdd,
     Kind::Add,
@@ -47,11 +51,12 @@ pub struct Call {
     pub a: u64,
     pub b: u64,
     pub minute: u16,
+    pub threshold: u64,
 }
 
 impl fmt::Display for Call {
     fn fmt(&self, f: &mut fmt::Formatter) -> fmt::Result {
-        let Call { kind, n, a, b, minute } = self;
+        let Call { kind, n, a, b, minute, threshold } = self;
         match kind {
             Kind::Clear => write!(f, "clear, n = {n}"),
             Kind::Score => write!(f, "score, n = {n}, node {a}"),
@@ -64,6 +69,8 @@ impl fmt::Display for Call {
             Kind::ScheduleWrite => write!(f, "snapshot of a schedule at minute {minute}"),
             Kind::ScheduleNext => write!(f, "next change after minute {minute}"),
             Kind::ScheduleLoad => write!(f, "load of a schedule at minute {minute}"),
+            Kind::SurveyWrite => write!(f, "snapshot of a survey, n = {n}, threshold {threshold}"),
+            Kind::SurveyPosition => write!(f, "record of a survey that counts, n = {n}, {a} and {b}"),
             Kind::Reconcile => write!(f, "reconcile"),
             Kind::List => write!(f, "list"),
             Kind::ListEntries => write!(f, "list, entries as records"),
@@ -75,7 +82,7 @@ impl Kind {
     /// The refusal in an answer of this kind of call, 0 for acceptance.
     pub fn refusal(self, answer: u64) -> u64 {
         match self {
-            Kind::Score | Kind::ScheduleNext | Kind::List | Kind::ListEntries => {
+            Kind::Score | Kind::ScheduleNext | Kind::SurveyPosition | Kind::List | Kind::ListEntries => {
                 let negated = answer.wrapping_neg();
                 if negated <= Refusal::LAST {
                     negated
@@ -87,9 +94,9 @@ impl Kind {
         }
     }
 
-    /// The call is lent a state, or is given its n.
+    /// The call is lent a state, or a part of it with its n.
     pub fn has_state(self) -> bool {
-        !matches!(self, Kind::ScheduleWrite | Kind::ScheduleNext)
+        !matches!(self, Kind::ScheduleWrite | Kind::ScheduleNext | Kind::SurveyWrite | Kind::SurveyPosition)
     }
 }
 
@@ -103,6 +110,7 @@ pub struct Memory {
     pub marks: Vec<u8>,
     pub snapshot: Vec<u8>,
     pub schedule: Vec<u8>,
+    pub survey: Vec<u8>,
     pub theirs: Vec<u8>,
     pub base: Vec<u8>,
     /// The plain entries; as records, as many as there are whole ones.
@@ -114,7 +122,7 @@ pub struct Memory {
 impl Memory {
     /// Runs the call of one version over this memory.
     pub fn run(&mut self, version: &dyn Calls, call: Call) -> u64 {
-        let Call { kind, n, a, b, minute } = call;
+        let Call { kind, n, a, b, minute, threshold } = call;
         match kind {
             Kind::Clear => version.clear(n, &mut self.edges, &mut self.figures, &mut self.marks),
             Kind::Add => version.add(n, &mut self.edges, &mut self.figures, &mut self.marks, a, b),
@@ -137,6 +145,8 @@ impl Memory {
             Kind::ScheduleLoad => self.over_numbers(|memory, figures| {
                 version.schedule_load(&mut memory.edges, figures, &mut memory.marks, &memory.schedule, minute)
             }),
+            Kind::SurveyWrite => version.survey_write(&self.survey, n, threshold, &mut self.snapshot),
+            Kind::SurveyPosition => version.survey_position(&self.survey, n, a, b),
             Kind::Reconcile => self.over_numbers(|memory, figures| {
                 version.reconcile(&mut memory.edges, figures, &mut memory.marks, &memory.theirs, &memory.base)
             }),
@@ -178,6 +188,7 @@ impl Memory {
             ("marks byte", &self.marks, &other.marks),
             ("snapshot byte", &self.snapshot, &other.snapshot),
             ("schedule byte", &self.schedule, &other.schedule),
+            ("survey byte", &self.survey, &other.survey),
             ("theirs byte", &self.theirs, &other.theirs),
             ("base byte", &self.base, &other.base),
             ("scratch byte", &self.scratch, &other.scratch),
@@ -209,6 +220,7 @@ impl fmt::Display for Memory {
             ("marks", &self.marks),
             ("snapshot", &self.snapshot),
             ("schedule", &self.schedule),
+            ("survey", &self.survey),
             ("theirs", &self.theirs),
             ("base", &self.base),
             ("scratch", &self.scratch),

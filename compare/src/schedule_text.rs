@@ -11,7 +11,8 @@
 
 use crate::lines::{lines, numbers, posts, Line};
 use crate::plain::schedule::{Record, RECORD_BYTES};
-use crate::text::Packer;
+use crate::record_text::{self, Fault, Layout, TWO_POSTS};
+use crate::text::{Packer, Unpacked};
 
 const DAYS: [&str; 7] = ["mon", "tue", "wed", "thu", "fri", "sat", "sun"];
 const DAY: usize = 24 * 60;
@@ -20,6 +21,9 @@ const DAY: usize = 24 * 60;
 const HOURS: &str =
     "`open A B from M to M` with A and B from 0 to 255, and each M from 0 to 65535 or a day and a time \
                      such as `mon 18:30`";
+
+/// How errors name the records of a schedule, which follow its first byte.
+const LAYOUT: Layout = Layout { start: 1, size: RECORD_BYTES, first: 1, cut: "" };
 
 /// The minutes of a time from 00:00 to 24:00.
 fn time(word: &str) -> Option<usize> {
@@ -41,6 +45,18 @@ fn minute(words: &[&str]) -> Option<usize> {
     }
 }
 
+/// The minute with which words begin, and the words after it.
+pub fn leading_minute<'a>(words: &'a [&'a str]) -> Result<(u16, &'a [&'a str]), String> {
+    let of = |count: usize| {
+        let (first, rest) = words.split_at_checked(count)?;
+        Some((minute(first)? as u16, rest))
+    };
+    of(2).or_else(|| of(1)).ok_or_else(|| {
+        let found = words.join(" ");
+        format!("expected a minute from 0 to 65535, or a day and a time such as `wed 14:30`, found `{found}`")
+    })
+}
+
 /// The numbers of a line: two posts, a from minute and a to minute.
 fn record(words: &[&str]) -> Option<[usize; 4]> {
     let ["open", a, b, "from", hours @ ..] = words else {
@@ -52,11 +68,11 @@ fn record(words: &[&str]) -> Option<[usize; 4]> {
 }
 
 /// What the library expects of a record on a board of n posts, and the refusal where it is something else.
-fn fault(n: usize, [a, b, from, to]: [usize; 4]) -> Option<(String, u64)> {
+fn fault(n: usize, [a, b, from, to]: [usize; 4]) -> Option<Fault> {
     if a >= n || b >= n {
         Some((format!("posts below {n}"), 4))
     } else if a == b {
-        Some(("two different posts".to_string(), 5))
+        Some((TWO_POSTS.to_string(), 5))
     } else if from >= to {
         Some(("a from minute below the to minute".to_string(), 13))
     } else {
@@ -101,34 +117,23 @@ fn printed(minute: usize) -> String {
     }
 }
 
-/// Prints a schedule as text: every whole record, those too that the library would refuse. The errors, a line for each,
-/// name these records, with the refusal and what was expected, and a last one that is not whole.
-pub fn unpack(schedule: &[u8]) -> (String, Result<(), String>) {
-    let Some((&first, rest)) = schedule.split_first() else {
+/// Prints a schedule as text. The errors name the records that the library would refuse, the first of them as 1.
+pub fn unpack(schedule: &[u8]) -> Unpacked {
+    let Some(&first) = schedule.first() else {
         return (String::new(), Err("expected a first byte n-1, found an empty input".to_string()));
     };
     let n = usize::from(first) + 1;
-    let mut text = format!("posts {n}\n");
-    let mut errors = Vec::new();
-    for (place, bytes) in rest.chunks(RECORD_BYTES).enumerate() {
-        let name = format!("record {} at byte {}", place + 1, 1 + RECORD_BYTES * place);
-        if bytes.len() < RECORD_BYTES {
-            errors.push(format!("{name}: expected a record of {RECORD_BYTES} bytes, found {}", bytes.len()));
-            break;
-        }
+    let (lines, done) = record_text::print(schedule, &LAYOUT, |bytes| {
         let Record { a, b, from, to } = Record::read(bytes);
         let line = format!("open {a} {b} from {} to {}", printed(from.into()), printed(to.into()));
-        if let Some((expected, refusal)) = fault(n, [a.into(), b.into(), from.into(), to.into()]) {
-            errors.push(format!("{name}: refusal {refusal}, expected {expected}, found `{line}`"));
-        }
-        text += &format!("{line}\n");
-    }
-    (text, if errors.is_empty() { Ok(()) } else { Err(errors.join("\n")) })
+        (line, fault(n, [a.into(), b.into(), from.into(), to.into()]))
+    });
+    (format!("posts {n}\n{lines}"), done)
 }
 
 #[cfg(test)]
 mod tests {
-    use super::{pack, unpack};
+    use super::{leading_minute, pack, unpack};
     use crate::rng::Rng;
 
     const TEXT: &str = "posts 12
@@ -209,6 +214,21 @@ open 4 5 from 10081 to 65535
         let ended = "line 1: expected `posts N` with N from 1 to 256, found the end of the text";
         assert_eq!(pack("").unwrap_err(), ended);
         assert!(pack("open 0 1 from 1 to 2\n").unwrap_err().starts_with("line 1: expected `posts N`"));
+    }
+
+    #[test]
+    fn words_may_begin_with_a_minute() {
+        let begins = |words: &[&str], minute: u16, rest: &[&str]| assert_eq!(leading_minute(words), Ok((minute, rest)));
+        begins(&["600"], 600, &[]);
+        begins(&["65535", "week.bin"], 65_535, &["week.bin"]);
+        begins(&["600", "14:30"], 600, &["14:30"]);
+        begins(&["wed", "14:30"], 3_750, &[]);
+        begins(&["sun", "24:00", "week.bin", "more"], 10_080, &["week.bin", "more"]);
+        for words in [&["65536"][..], &["wed"], &["week.bin"], &["wed", "week.bin"], &["wed", "24:01"], &["-1", "600"]]
+        {
+            let expected = "expected a minute from 0 to 65535, or a day and a time such as `wed 14:30`";
+            assert_eq!(leading_minute(words), Err(format!("{expected}, found `{}`", words.join(" "))));
+        }
     }
 
     #[test]

@@ -1,9 +1,7 @@
 //! Random schedules, with a minute at which they are read.
 
-use crate::generate::random_edges;
-use crate::plain::limits::MAX_DEGREE;
-use crate::plain::packing::{bit, pair_index};
 use crate::plain::schedule::Record;
+use crate::record_pairs::{ends, pairs, Style};
 use crate::rng::Rng;
 
 /// The minutes at either end.
@@ -52,63 +50,15 @@ impl Span {
     }
 }
 
-/// What pairs a schedule is of.
-#[derive(Clone, Copy)]
-enum Style {
-    /// A few, any.
-    Few,
-    /// Two or three, each with hours that overlap, touch and repeat.
-    Repeated,
-    /// Of one node, about as many as a node may hold, a few of them more than once.
-    Crowded,
-    /// Those of a whole board.
-    Board,
-}
-
-/// A pair of two different nodes, in either order; n is above 1.
-fn pair(rng: &mut Rng, n: usize) -> (usize, usize) {
-    let a = rng.below(n);
-    (a, (a + rng.between(1, n - 1)) % n)
-}
-
-/// The pair of each record.
-fn pairs(rng: &mut Rng, n: usize, style: Style) -> Vec<(usize, usize)> {
-    match style {
-        Style::Few => (0..rng.between(0, 12)).map(|_| pair(rng, n)).collect(),
-        Style::Repeated => {
-            let some: Vec<_> = (0..rng.between(1, 3)).map(|_| pair(rng, n)).collect();
-            (0..rng.between(4, 30)).map(|_| rng.pick(&some)).collect()
-        }
-        Style::Crowded => {
-            let p = rng.below(n);
-            let mut others: Vec<usize> = (0..n).filter(|&q| q != p).collect();
-            rng.shuffle(&mut others);
-            others.truncate(rng.between(MAX_DEGREE - 1, MAX_DEGREE + 4));
-            for _ in 0..rng.below(4) {
-                others.push(rng.pick(&others));
-            }
-            others.into_iter().map(|q| (p, q)).collect()
-        }
-        Style::Board => {
-            let edges = random_edges(rng, n);
-            let all = (0..n).flat_map(|b| (0..b).map(move |a| (a, b)));
-            all.filter(|&(a, b)| bit(&edges, pair_index(a, b))).collect()
-        }
-    }
-}
-
 /// The records of a schedule of n nodes.
 fn records(rng: &mut Rng, n: usize, span: &Span, style: Style) -> Vec<Record> {
-    if n == 1 {
-        return Vec::new();
-    }
     let whole = match style {
         Style::Few | Style::Repeated => rng.pick(&[0, 0, 20]),
         Style::Crowded | Style::Board => rng.pick(&[80, 97, 100]),
     };
     let mut records = Vec::new();
-    for (a, b) in pairs(rng, n, style) {
-        let (a, b) = if rng.chance(50) { (a as u8, b as u8) } else { (b as u8, a as u8) };
+    for pair in pairs(rng, n, style) {
+        let (a, b) = ends(rng, pair);
         let (from, to) = span.hours(rng, whole);
         records.push(Record { a, b, from, to });
     }
@@ -138,12 +88,7 @@ pub fn bytes(record: Record) -> [u8; 6] {
 /// A schedule of n nodes, and a minute. Where the minutes after it are walked, it has few records.
 pub fn schedule(rng: &mut Rng, n: usize, walked: bool) -> (Vec<u8>, u16) {
     let span = Span::random(rng);
-    let style = match rng.below(20) {
-        0..=5 if n > MAX_DEGREE => Style::Crowded,
-        6..=9 if !walked => Style::Board,
-        10..=14 => Style::Repeated,
-        _ => Style::Few,
-    };
+    let style = Style::random(rng, n, !walked);
     let records = records(rng, n, &span, style);
     let mut schedule = vec![(n - 1) as u8];
     schedule.extend(records.iter().flat_map(|&record| bytes(record)));

@@ -39,6 +39,9 @@ impl Packer {
     }
 }
 
+/// The text of some bytes, and what is wrong with them.
+pub type Unpacked = (String, Result<(), String>);
+
 /// Packs a line after the first into a record.
 fn pack_line(packer: &mut Packer, line: &Line) -> Result<(), String> {
     let (word, rest) = (line.words[0], &line.words[1..]);
@@ -76,7 +79,7 @@ pub fn pack(text: &str) -> Result<Vec<u8>, String> {
 
 /// Prints a script as text. An error names the record and what was expected; the lines of the
 /// records before it stand.
-pub fn unpack(script: &[u8]) -> (String, Result<(), String>) {
+pub fn unpack(script: &[u8]) -> Unpacked {
     if script.len() > MAX_BYTES {
         let error = format!("expected at most {MAX_BYTES} bytes, found {}", script.len());
         return (String::new(), Err(error));

@@ -1,7 +1,7 @@
 //! A board that owns all that a call is lent.
 
 use crate::calls::{Calls, Entry};
-use crate::plain::packing::{bit, edge_bytes, mark_bytes, pair_index, put_bit};
+use crate::plain::packing::{bit, edge_bytes, mark_bytes, pair_index, pairs, put_bit};
 use crate::rng::Rng;
 use crate::tuned::Tuned;
 
@@ -15,22 +15,25 @@ pub struct Board {
     pub marks: Vec<u8>,
     pub snapshot: Vec<u8>,
     pub schedule: Vec<u8>,
+    pub survey: Vec<u8>,
     pub theirs: Vec<u8>,
     pub entries: Vec<u64>,
     pub records: Vec<Entry>,
     pub scratch: Vec<u8>,
     pub changes: Vec<i64>,
-    /// The pair that an edit names, or the node that is scored.
+    /// The pair that an edit names or a survey is asked about, or the node that is scored.
     pub a: u64,
     pub b: u64,
     /// The minute at which the schedule is read.
     pub minute: u16,
+    /// The threshold at which the survey is read.
+    pub threshold: u64,
 }
 
 impl Board {
     /// A random board of n nodes with `links` edges at nearly every node, loaded: all open.
     pub fn random(rng: &mut Rng, n: usize, links: usize) -> Board {
-        let mut pairs = pairs(n);
+        let mut pairs: Vec<_> = pairs(n).collect();
         rng.shuffle(&mut pairs);
         Board::of(n, links, pairs)
     }
@@ -39,8 +42,7 @@ impl Board {
     /// and random edges between neighbouring blocks, one or two at about a quarter of the nodes.
     pub fn clustered(rng: &mut Rng, n: usize, links: usize) -> Board {
         let size = links - 1;
-        let mut joined = pairs(n);
-        joined.retain(|&(a, b)| a / size == b / size);
+        let mut joined: Vec<_> = pairs(n).filter(|&(a, b)| a / size == b / size).collect();
         let last = (n - 1) / size * size;
         let mut between = vec![0; n];
         for _ in 0..n / 8 {
@@ -81,10 +83,12 @@ impl Board {
             scratch: vec![0; n],
             changes: vec![0; n],
             schedule: vec![snapshot[0]],
+            survey: Vec::new(),
             snapshot,
             a: 0,
             b: 0,
             minute: 0,
+            threshold: 0,
         };
         board.load(&Tuned);
         board.theirs = board.edges.clone();
@@ -108,9 +112,7 @@ impl Board {
 
     /// The pairs that are joined, or those that are not.
     pub fn pairs(&self, joined: bool) -> Vec<(usize, usize)> {
-        let mut pairs = pairs(self.n);
-        pairs.retain(|&(a, b)| bit(&self.edges, pair_index(a, b)) == joined);
-        pairs
+        pairs(self.n).filter(|&(a, b)| bit(&self.edges, pair_index(a, b)) == joined).collect()
     }
 
     pub fn clear(&mut self, version: &dyn Calls) -> u64 {
@@ -135,6 +137,14 @@ impl Board {
 
     pub fn schedule_load(&mut self, version: &dyn Calls) -> u64 {
         version.schedule_load(&mut self.edges, &mut self.figures, &mut self.marks, &self.schedule, self.minute)
+    }
+
+    pub fn survey_write(&mut self, version: &dyn Calls) -> u64 {
+        version.survey_write(&self.survey, self.n as u64, self.threshold, &mut self.snapshot)
+    }
+
+    pub fn survey_position(&mut self, version: &dyn Calls) -> u64 {
+        version.survey_position(&self.survey, self.n as u64, self.a, self.b)
     }
 
     pub fn score(&mut self, version: &dyn Calls) -> u64 {
@@ -169,9 +179,4 @@ impl Board {
     pub fn list_entries(&mut self, version: &dyn Calls) -> u64 {
         version.list_entries(&mut self.edges, &mut self.figures, &mut self.marks, &mut self.records, &mut self.scratch)
     }
-}
-
-/// The pairs a < b of n nodes, in bit order.
-fn pairs(n: usize) -> Vec<(usize, usize)> {
-    (0..n).flat_map(|b| (0..b).map(move |a| (a, b))).collect()
 }

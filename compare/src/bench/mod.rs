@@ -1,9 +1,11 @@
 //! The benchmark: each call on the same boards, the library beside the tuned version, medians and their ratio; then how
-//! many nodes a list works out, and the calls of a schedule. Nothing is asserted of a time.
+//! many nodes a list works out, and the calls of schedules and of surveys. Nothing is asserted of a time.
 
 mod board;
 mod cases;
+mod files;
 mod schedules;
+mod surveys;
 mod time;
 mod worked;
 
@@ -69,6 +71,7 @@ pub fn run(library: Option<&dyn Calls>) {
     }
     worked::run(&versions);
     schedules::run(&versions);
+    surveys::run(&versions);
 }
 
 /// A line for each version: how much faster the list is than scoring every node.
@@ -82,7 +85,7 @@ fn gains(versions: &[&dyn Calls], n: usize, links: usize, whole: &[f64], list: &
     versions.iter().zip(whole.iter().zip(list).map(|(whole, list)| whole / list)).map(line).collect()
 }
 
-/// A line of a table; `size` is how many links a node has, or how many records a schedule.
+/// A line of a table; `size` is how many links a node has, or how many records a schedule or a survey.
 fn print_line(name: &str, n: usize, size: usize, times: &[f64]) {
     let tuned = times[0];
     match times.get(1) {

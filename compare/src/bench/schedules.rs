@@ -1,22 +1,13 @@
 //! The calls of a schedule, on schedules of many records.
 
 use super::board::Board;
-use super::cases::Case;
-use super::time::{time_within, ROUNDS};
-use super::{print_line, SEED};
+use super::files::{print_table, Row};
 use crate::calls::Calls;
 use crate::plain::schedule::Record;
+use crate::record_pairs::ends;
 use crate::rng::Rng;
 use crate::schedules::bytes;
-use std::time::Duration;
 
-/// How many records a schedule has, and how many calls are timed together.
-const SIZES: [(usize, usize); 3] = [(100, 32), (1_000, 8), (10_000, 2)];
-/// How long the rounds of a call may take: a method that goes over all records for each of them needs long.
-const LIMIT: Duration = Duration::from_millis(300);
-const NODES: [usize; 2] = [64, 256];
-/// The links that a node may have at any minute.
-const LINKS: usize = 32;
 /// The minutes of the tour week.
 const WEEK: usize = 10_080;
 /// The minute at which schedules are read.
@@ -24,23 +15,23 @@ const MINUTE: usize = WEEK / 2;
 /// About how many records a pair has that is open until late.
 const PIECES: usize = 8;
 
-/// Makes some records of these pairs.
-type Make = fn(&mut Rng, &[(usize, usize)], usize) -> Vec<Record>;
-
-/// A call's name, the records on which it is timed, and the call.
-type Row = (&'static str, Make, fn(&mut Board, &dyn Calls) -> u64);
-
 const ROWS: [Row; 5] = [
-    ("sheet at a minute", spread, Board::schedule_write),
-    ("next change, early", spread, Board::schedule_next),
-    ("next change, late", joined, Board::schedule_next),
-    ("next change, worst", reversed, Board::schedule_next),
-    ("load at a minute", spread, Board::schedule_load),
+    ("sheet at a minute", |rng, board, pairs, count| lend(board, spread(rng, pairs, count)), Board::schedule_write),
+    ("next change, early", |rng, board, pairs, count| lend(board, spread(rng, pairs, count)), Board::schedule_next),
+    ("next change, late", |rng, board, pairs, count| lend(board, joined(rng, pairs, count)), Board::schedule_next),
+    ("next change, worst", |rng, board, pairs, count| lend(board, reversed(rng, pairs, count)), Board::schedule_next),
+    ("load at a minute", |rng, board, pairs, count| lend(board, spread(rng, pairs, count)), Board::schedule_load),
 ];
 
+/// The schedule of these records, read at the minute.
+fn lend(board: &mut Board, records: Vec<Record>) {
+    board.schedule.extend(records.into_iter().flat_map(bytes));
+    board.minute = MINUTE as u16;
+}
+
 /// A record of a pair, in either order.
-fn record(rng: &mut Rng, (a, b): (usize, usize), from: usize, to: usize) -> Record {
-    let (a, b) = if rng.chance(50) { (a as u8, b as u8) } else { (b as u8, a as u8) };
+fn record(rng: &mut Rng, pair: (usize, usize), from: usize, to: usize) -> Record {
+    let (a, b) = ends(rng, pair);
     Record { a, b, from: from as u16, to: to as u16 }
 }
 
@@ -76,20 +67,5 @@ fn reversed(rng: &mut Rng, pairs: &[(usize, usize)], records: usize) -> Vec<Reco
 
 /// Prints the table.
 pub fn run(versions: &[&dyn Calls]) {
-    println!("schedules: medians of up to {ROUNDS} rounds, in nanoseconds a call");
-    println!("{:<20}{:>5}{:>8}{:>12}{:>12}{:>8}", "call", "n", "records", "library", "tuned", "ratio");
-    for n in NODES {
-        for (records, batch) in SIZES {
-            for (name, make, call) in ROWS {
-                let mut rng = Rng::new(SEED);
-                let mut board = Board::random(&mut rng, n, LINKS);
-                let mut pairs = board.pairs(true);
-                rng.shuffle(&mut pairs);
-                board.schedule.extend(make(&mut rng, &pairs, records).into_iter().flat_map(bytes));
-                board.minute = MINUTE as u16;
-                let case = Case { name, boards: vec![board; batch], call };
-                print_line(name, n, records, &time_within(&case, versions, LIMIT));
-            }
-        }
-    }
+    print_table("schedules", versions, &ROWS);
 }

@@ -1,9 +1,10 @@
 //! Cases by name, each on every call that has the thing tested: the description's that the proofs leave to a run,
 //! the figures of small boards, what previews show and when they are refused, the sheets that are written and when a
-//! write is refused, and of timed sheets the sheets at a minute, loads at a minute, next changes, and when these are
-//! refused.
+//! write is refused, of timed sheets the sheets at a minute, loads at a minute, next changes, and when these are
+//! refused, and of surveys the sheets at a threshold, the records that count, and when these are refused.
 
 mod figures;
+mod long_surveys;
 mod next_changes;
 mod preview_refusals;
 mod previews;
@@ -13,18 +14,21 @@ mod schedule_refusals;
 mod schedules;
 mod sheet_refusals;
 mod sheets;
+mod survey_refusals;
+mod surveys;
 
 use crate::calls::Calls;
 use crate::memory::{Call, Kind, Memory};
 use crate::plain::packing::{edge_bytes, mark_bytes, pair_count, pair_index, put_bit};
 
 /// A board of n posts, with all that a call can be lent: of the lengths that n requires, one entry, no links anywhere,
-/// and a timed sheet without records.
+/// a timed sheet and a survey without records, and a threshold of 0.
 struct Board<'a> {
     version: &'a dyn Calls,
     n: usize,
     lent: Memory,
     minute: u16,
+    threshold: u64,
 }
 
 impl<'a> Board<'a> {
@@ -35,6 +39,7 @@ impl<'a> Board<'a> {
             marks: vec![0; mark_bytes(n)],
             snapshot: sheet(n, &links),
             schedule: sheet(n, &[]),
+            survey: Vec::new(),
             theirs: links.clone(),
             base: links.clone(),
             edges: links,
@@ -42,12 +47,18 @@ impl<'a> Board<'a> {
             scratch: vec![0; n],
             changes: vec![0; n],
         };
-        Board { version, n, lent, minute: 0 }
+        Board { version, n, lent, minute: 0, threshold: 0 }
+    }
+
+    /// A call with the board's numbers.
+    fn given(&self, kind: Kind, a: usize, b: usize) -> Call {
+        let (n, minute, threshold) = (self.n as u64, self.minute, self.threshold);
+        Call { kind, n, a: a as u64, b: b as u64, minute, threshold }
     }
 
     /// What a call answers.
     fn answer(&mut self, kind: Kind, a: usize, b: usize) -> u64 {
-        let call = Call { kind, n: self.n as u64, a: a as u64, b: b as u64, minute: self.minute };
+        let call = self.given(kind, a, b);
         self.lent.run(self.version, call)
     }
 
@@ -105,6 +116,15 @@ type Hours = (u8, u8, u16, u16);
 fn timed(n: usize, records: &[Hours]) -> Vec<u8> {
     let bytes = |&(a, b, from, to): &Hours| [&[a, b][..], &from.to_be_bytes(), &to.to_be_bytes()].concat();
     sheet(n, &records.iter().flat_map(bytes).collect::<Vec<_>>())
+}
+
+/// A record of a survey: two posts, the survey's number, and the strength.
+type Heard = (u8, u8, u16, u8);
+
+/// The survey of these records.
+fn survey(records: &[Heard]) -> Vec<u8> {
+    let bytes = |&(a, b, number, strength): &Heard| [&[a, b][..], &number.to_be_bytes(), &[strength]].concat();
+    records.iter().flat_map(bytes).collect()
 }
 
 /// The links of a board.
@@ -179,5 +199,7 @@ pub fn run(version: &dyn Calls) -> Result<(), String> {
     schedules::run(version)?;
     schedule_loads::run(version)?;
     next_changes::run(version)?;
-    run_refused(version, "timed sheet", &schedule_refusals::CASES)
+    run_refused(version, "timed sheet", &schedule_refusals::CASES)?;
+    surveys::run(version)?;
+    run_refused(version, "survey", &survey_refusals::CASES)
 }

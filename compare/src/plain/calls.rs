@@ -3,7 +3,7 @@
 use super::refusal::{refuse_if, Refusal};
 use super::score::Scorer;
 use super::state::{check_node_count, State};
-use super::{clear, edit, list, preview, reconcile, schedule, score, snapshot};
+use super::{clear, edit, list, preview, reconcile, schedule, score, snapshot, survey};
 use crate::calls::{Calls, Entry};
 
 /// The plain version with one of its two ways to score.
@@ -100,6 +100,14 @@ impl Calls for Plain {
         minute: u16,
     ) -> u64 {
         number(schedule::load(State { edges, figures, marks }, schedule, minute))
+    }
+
+    fn survey_write(&self, survey: &[u8], n: u64, threshold: u64, snapshot: &mut [u8]) -> u64 {
+        number(survey::write(survey, n, threshold, snapshot))
+    }
+
+    fn survey_position(&self, survey: &[u8], n: u64, a: u64, b: u64) -> u64 {
+        value(survey::position(survey, n, a, b))
     }
 
     fn reconcile(&self, edges: &mut [u8], figures: &mut [u64], marks: &mut [u8], theirs: &[u8], base: &[u8]) -> u64 {

@@ -13,6 +13,7 @@ pub mod packing;
 pub mod paths;
 pub mod preview;
 pub mod reconcile;
+pub mod records;
 pub mod refusal;
 pub mod replay;
 pub mod schedule;
@@ -20,6 +21,7 @@ pub mod score;
 pub mod script;
 pub mod snapshot;
 pub mod state;
+pub mod survey;
 
 #[cfg(test)]
 mod tests;

@@ -26,6 +26,11 @@ pub fn pair_index(a: usize, b: usize) -> usize {
     high * (high - 1) / 2 + low
 }
 
+/// The pairs a < b of n nodes, in bit order.
+pub fn pairs(n: usize) -> impl Iterator<Item = (usize, usize)> {
+    (0..n).flat_map(|b| (0..b).map(move |a| (a, b)))
+}
+
 /// Bit `index` of the bytes.
 pub fn bit(bytes: &[u8], index: usize) -> bool {
     bytes[index / 8] & (128 >> (index % 8)) != 0

@@ -1,7 +1,7 @@
 //! Reconcile: a three-way merge of the state (mine) with theirs over the base.
 
 use super::edit::{add, remove};
-use super::packing::{bit, edge_bytes, pair_count};
+use super::packing::{bit, edge_bytes, pairs};
 use super::refusal::{refuse_if, Refusal};
 use super::state::State;
 
@@ -17,7 +17,7 @@ pub fn reconcile(state: State, theirs: &[u8], base: &[u8]) -> Result<(), Refusal
 
     let mut removals = Vec::new();
     let mut additions = Vec::new();
-    for (index, (a, b)) in pairs(n).into_iter().enumerate() {
+    for (index, (a, b)) in pairs(n).enumerate() {
         let wanted = bit(theirs, index);
         if wanted != bit(base, index) && wanted != bit(state.edges, index) {
             graph.set(a, b, wanted);
@@ -39,13 +39,6 @@ pub fn reconcile(state: State, theirs: &[u8], base: &[u8]) -> Result<(), Refusal
             .expect("an addition within the limits is accepted");
     }
     Ok(())
-}
-
-/// The pairs a < b in bit order.
-fn pairs(n: usize) -> Vec<(usize, usize)> {
-    let all: Vec<_> = (0..n).flat_map(|b| (0..b).map(move |a| (a, b))).collect();
-    assert_eq!(all.len(), pair_count(n));
-    all
 }
 
 fn lend<'a>(edges: &'a mut [u8], figures: &'a mut [u64], marks: &'a mut [u8]) -> State<'a> {

@@ -1,5 +1,5 @@
 //! Why a call turns back. The numbers are the description's, in the order in which they are tested; the calls of a
-//! schedule have an order of their own.
+//! schedule and of a survey have an order of their own.
 
 #[derive(Clone, Copy, Debug, PartialEq, Eq)]
 pub enum Refusal {
@@ -26,15 +26,17 @@ pub enum Refusal {
     OtherNodeCount = 10,
     /// Before the call a node has more than `MAX_DEGREE` edges.
     Crowded = 11,
-    /// After the call, or in a schedule's snapshot, a node would have more than `MAX_DEGREE` edges.
+    /// After the call, or in the snapshot of a schedule or a survey, a node would have more than `MAX_DEGREE` edges.
     WouldCrowd = 12,
     /// A record's from is not below its to.
     NoHours = 13,
+    /// A survey is not a whole number of records.
+    BadSurvey = 14,
 }
 
 impl Refusal {
     /// The largest number.
-    pub const LAST: u64 = Refusal::NoHours as u64;
+    pub const LAST: u64 = Refusal::BadSurvey as u64;
 
     /// The number that a call answers with.
     pub fn number(self) -> u64 {

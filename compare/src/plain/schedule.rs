@@ -1,8 +1,8 @@
 //! Timed sheets: a byte n−1, then records of 48 bits, most significant first. The ordinary sheet at a minute, the next
 //! change after a minute, and the load at a minute.
 
-use super::graph::Graph;
-use super::packing::{edge_bytes, pair_index, put_bit};
+use super::packing::edge_bytes;
+use super::records::check_pairs;
 use super::refusal::{refuse_if, Refusal};
 use super::snapshot;
 use super::state::State;
@@ -55,9 +55,8 @@ impl Schedule {
 
     /// Refusals 4, 5 and 13, each over all records.
     fn check(&self) -> Result<(), Refusal> {
-        let far = |record: &Record| usize::from(record.a) >= self.n || usize::from(record.b) >= self.n;
-        refuse_if(self.records.iter().any(far), Refusal::NoSuchNode)?;
-        refuse_if(self.records.iter().any(|record| record.a == record.b), Refusal::SameNode)?;
+        let pairs: Vec<_> = self.records.iter().map(|record| (record.a.into(), record.b.into())).collect();
+        check_pairs(self.n as u64, &pairs)?;
         refuse_if(self.records.iter().any(|record| record.from >= record.to), Refusal::NoHours)
     }
 
@@ -68,12 +67,7 @@ impl Schedule {
 
     /// The ordinary snapshot at a minute.
     fn snapshot_at(&self, minute: u16) -> Vec<u8> {
-        let mut snapshot = vec![0; 1 + edge_bytes(self.n)];
-        snapshot[0] = (self.n - 1) as u8;
-        for (a, b) in self.pairs_at(minute) {
-            put_bit(&mut snapshot[1..], pair_index(a.into(), b.into()), true);
-        }
-        snapshot
+        snapshot::of_pairs(self.n, self.pairs_at(minute).into_iter().map(|(a, b)| (a.into(), b.into())))
     }
 }
 
@@ -82,10 +76,7 @@ pub fn write(schedule: &[u8], minute: u16, snapshot: &mut [u8]) -> Result<(), Re
     let schedule = Schedule::parse(schedule)?;
     refuse_if(snapshot.len() != 1 + edge_bytes(schedule.n), Refusal::BufferLength)?;
     schedule.check()?;
-    let made = schedule.snapshot_at(minute);
-    refuse_if(Graph::read(schedule.n, &made[1..]).any_crowded(), Refusal::WouldCrowd)?;
-    snapshot.copy_from_slice(&made);
-    Ok(())
+    snapshot::hand_over(&schedule.snapshot_at(minute), snapshot)
 }
 
 /// The first minute after `minute` at which any edge differs from its state at `minute`, or `NONE`.

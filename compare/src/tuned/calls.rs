@@ -1,6 +1,6 @@
 //! The tuned version behind the C functions' signatures.
 
-use super::{edit, list, merge, next_change, preview, schedule, score, snapshot};
+use super::{edit, list, merge, next_change, preview, schedule, score, snapshot, survey};
 use crate::calls::{Calls, Entry};
 
 pub struct Tuned;
@@ -59,6 +59,14 @@ impl Calls for Tuned {
         minute: u16,
     ) -> u64 {
         schedule::load(edges, figures, marks, schedule, minute)
+    }
+
+    fn survey_write(&self, survey: &[u8], n: u64, threshold: u64, snapshot: &mut [u8]) -> u64 {
+        survey::write(survey, n, threshold, snapshot).err().unwrap_or(0)
+    }
+
+    fn survey_position(&self, survey: &[u8], n: u64, a: u64, b: u64) -> u64 {
+        survey::position(survey, n, a, b).unwrap_or_else(u64::wrapping_neg)
     }
 
     fn reconcile(&self, edges: &mut [u8], figures: &mut [u64], marks: &mut [u8], theirs: &[u8], base: &[u8]) -> u64 {

@@ -8,11 +8,13 @@ mod list;
 mod merge;
 mod next_change;
 mod preview;
+mod records;
 mod refuse;
 mod rows;
 mod schedule;
 mod score;
 mod snapshot;
+mod survey;
 mod touched;
 
 pub use calls::Tuned;

@@ -13,6 +13,7 @@ pub const OTHER_NODE_COUNT: u64 = 10;
 pub const CROWDED: u64 = 11;
 pub const WOULD_CROWD: u64 = 12;
 pub const NO_HOURS: u64 = 13;
+pub const BAD_SURVEY: u64 = 14;
 
 pub const LIMIT: usize = 40;
 pub const UNIT: u64 = 5_342_931_457_063_200;
@@ -22,13 +23,21 @@ pub fn edge_bytes(n: usize) -> usize {
     (n * (n - 1) / 2).div_ceil(8)
 }
 
+/// n as a count of nodes, or refusal 1.
+#[inline]
+pub fn node_count(n: u64) -> Result<usize, u64> {
+    match n {
+        1..=256 => Ok(n as usize),
+        _ => Err(NODE_COUNT),
+    }
+}
+
 /// Refusals 1 and 2 of the edges and the marks, 0 where neither applies.
 #[inline]
 pub fn state(n: u64, edges: &[u8], marks: &[u8]) -> u64 {
-    if n == 0 || n > 256 {
+    let Ok(n) = node_count(n) else {
         return NODE_COUNT;
-    }
-    let n = n as usize;
+    };
     if edges.len() != edge_bytes(n) || marks.len() != n.div_ceil(8) {
         return BUFFER_LENGTH;
     }

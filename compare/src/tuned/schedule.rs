@@ -1,14 +1,8 @@
 //! Timed sheets: the ordinary sheet at a minute, and the load at a minute.
 
-use super::refuse::{
-    self, any_over, edge_bytes, BAD_SNAPSHOT, BUFFER_LENGTH, NO_HOURS, NO_SUCH_NODE, OTHER_NODE_COUNT, SAME_NODE,
-    WOULD_CROWD,
-};
-use super::rows::pair;
+use super::records::{pair_of, Edges, Nodes, MOST_BYTES};
+use super::refuse::{self, edge_bytes, BAD_SNAPSHOT, BUFFER_LENGTH, NO_HOURS, OTHER_NODE_COUNT};
 use super::snapshot;
-
-/// The edge bytes of the largest graph.
-const MOST_BYTES: usize = 4_080;
 
 /// A record: two nodes in either order, and hours.
 #[derive(Clone, Copy)]
@@ -23,7 +17,7 @@ impl Record {
     /// The bit of the pair of two different nodes.
     #[inline]
     pub fn pair(self) -> usize {
-        pair(usize::from(self.a.min(self.b)), usize::from(self.a.max(self.b)))
+        pair_of(self.a, self.b)
     }
 }
 
@@ -63,18 +57,12 @@ impl<'a> Schedule<'a> {
     /// Refusals 4, 5 and 13, in one pass over the records.
     #[inline]
     pub fn check(self) -> Result<(), u64> {
-        let (mut high, mut same, mut closed) = (0, false, false);
+        let (mut nodes, mut closed) = (Nodes::default(), false);
         for record in self.records() {
-            high = high.max(record.a).max(record.b);
-            same |= record.a == record.b;
+            nodes.see(record.a, record.b);
             closed |= record.from >= record.to;
         }
-        if usize::from(high) >= self.n {
-            return Err(NO_SUCH_NODE);
-        }
-        if same {
-            return Err(SAME_NODE);
-        }
+        nodes.check(self.n)?;
         if closed {
             return Err(NO_HOURS);
         }
@@ -98,27 +86,13 @@ pub fn write(schedule: &[u8], minute: u16, snapshot: &mut [u8]) -> u64 {
 
 fn made(schedule: &[u8], minute: u16, snapshot: &mut [u8]) -> Result<(), u64> {
     let schedule = Schedule::parse(schedule)?;
-    let length = edge_bytes(schedule.n);
-    if snapshot.len() != 1 + length {
+    if snapshot.len() != 1 + edge_bytes(schedule.n) {
         return Err(BUFFER_LENGTH);
     }
     schedule.check()?;
-    let mut bits = [0; MOST_BYTES];
-    let mut degrees = [0_u16; 256];
-    schedule.each_open(minute, |index, record| {
-        let byte = &mut bits[index / 8];
-        let mask = 128 >> (index % 8);
-        let first = u16::from(*byte & mask == 0);
-        *byte |= mask;
-        degrees[usize::from(record.a)] += first;
-        degrees[usize::from(record.b)] += first;
-    });
-    if any_over(&degrees) {
-        return Err(WOULD_CROWD);
-    }
-    snapshot[0] = (schedule.n - 1) as u8;
-    snapshot[1..].copy_from_slice(&bits[..length]);
-    Ok(())
+    let mut edges = Edges::none();
+    schedule.each_open(minute, |index, record| edges.put(index, record.a, record.b, true));
+    edges.write(schedule.n, snapshot)
 }
 
 pub fn load(edges: &mut [u8], figures: &mut [u64], marks: &mut [u8], schedule: &[u8], minute: u16) -> u64 {

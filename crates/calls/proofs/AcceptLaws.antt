@@ -4,13 +4,12 @@ use mathlib.Core.List.{_++_, [], List, _∷_}
 use mathlib.Core.Logic.{inl, inr}
 use mathlib.Core.Path.{ap, refl, sym, _∙_, _≡_}
 use Prim.Native.Nat.{ℕ}
-use native.Mathlib.Decide.{ℕ-discrete}
 use native.Mathlib.Omega.{arith}
 use borrow.Author.Tests.{eq-eqb, eqb-true, ne-eqb, not-false}
 use lib.Dec.{eqb}
 use lib.ListN.{length, length-drop}
 use Rattle.arith.proofs.Tests.{or-false-both, test}
-use Rattle.state.proofs.RefusalLaws.{append-refused, Fitted, fitted-append, fitted-by}
+use Rattle.state.proofs.RefusalLaws.{append-none, Fitted, fitted-append, fitted-by}
 use Rattle.state.specs.Outcome.{lengths, outcome}
 use Rattle.state.specs.Refusal.{badSnapshot, Condition, otherCount, refusal, snapshotEdges, snapshotNodes}
 use Rattle.state.specs.Sizes.{edgeBytes}
@@ -36,10 +35,7 @@ append-same (c ∷ ls) cs ds e = same-rest c (ls ++ cs) (ls ++ ds) (λ t. append
 
 pub lengths-fit : (s : State) (cs : List Condition) → refusal (lengths s ++ cs) ≡ 0 → Fitted (size s) (length (s .edges)) (length (s .marks))
 unfolding lengths
-lengths-fit s cs e = elim (ℕ-discrete (refusal (lengths s)) 0) [
-  | yes z ↦ fitted-by refl z
-  | no d ↦ absurd (d (sym (append-refused (lengths s) cs refl d) ∙ e))
-]
+lengths-fit s cs e = fitted-by refl (append-none (lengths s) cs e)
 
 pub lengths-pass : (s : State) (cs : List Condition) → Fitted (size s) (length (s .edges)) (length (s .marks)) → refusal (lengths s ++ cs) ≡ refusal cs
 unfolding lengths

@@ -1,4 +1,5 @@
 pub mod AcceptLaws
+pub mod MadeLaws
 pub mod OutcomeLaws
 pub mod RoundTrip
 pub mod ScoreLaws

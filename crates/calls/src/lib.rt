@@ -1,4 +1,5 @@
 // The calls on a state that edit no edge: clear, load, write and score.
 pub mod clear;
+pub mod made;
 pub mod score;
 pub mod snapshot;

@@ -14,12 +14,12 @@ use Rattle.history.specs.History.{effect}
 use Rattle.merge.specs.Reconcile.{merged, overPairs, overRow, reconcileCall, reconciled, takes}
 use Rattle.packed.specs.Bits.{bitAt, bytesOf, withBit, wordOf}
 use Rattle.packed.specs.Edges.{edge, edgesOf, withEdge}
-use Rattle.packed.specs.Pairs.{anyPair, pairCount, pairIndex}
+use Rattle.packed.specs.Pairs.{anyPair, pairCount, pairIndex, samePair}
 use Rattle.calls.specs.Clear.{clearCall, cleared}
 use Rattle.edits.specs.Edit.{addCall, added, edited, newFigure, removeCall, removed, renewed}
 use Rattle.state.specs.Marks.{allExact, allStale, stale, staleTo, withMark}
 use Rattle.state.specs.Outcome.{lengths, outcome}
-use Rattle.state.specs.Refusal.{bufferLength, crowdedAfter, crowdedBefore, edgeAbsent, edgePresent, ends, listLength, nodeCount, nodeNumber, noHours, refusal, sameNodes, scratchLength, tooMany, touched, badSnapshot, otherCount, spareSet}
+use Rattle.state.specs.Refusal.{bufferLength, crowdedAfter, crowdedBefore, edgeAbsent, edgePresent, ends, listLength, nodeCount, nodeNumber, noHours, pairConditions, refusal, sameNodes, scratchLength, tooMany, touched, badSnapshot, otherCount, spareSet}
 use Rattle.topk.specs.Entries.{ranksBefore, insert, keep, stops, entriesOf}
 use Rattle.topk.specs.List.{acceptedList, listCall}
 use Rattle.topk.specs.Steps.{step, bestBelow, better, allSteps, stepAt, steps, took, worth}
@@ -40,8 +40,8 @@ unfolding test-of one-fails verdict sentences runCalls effect model modelRefusal
     score stale withMark staleTo allExact allStale refusal nodeCount bufferLength scratchLength nodeNumber sameNodes edgePresent edgeAbsent listLength
     badSnapshot otherCount spareSet tooMany ends touched crowdedBefore crowdedAfter outcome lengths cleared clearCall loaded loadCall newFigure renewed edited
     added removed addCall removeCall ranksBefore insert keep stops better bestBelow worth took stepAt step steps allSteps acceptedList listCall entriesOf
-    entriesCall ranking worksOut takes overRow overPairs reconciled reconcileCall merged wordOf anyPair edgesOf openingAt names openAt linkedAt badSchedule
-    conditionsTo noHours loadAtCall
+    entriesCall ranking worksOut takes overRow overPairs reconciled reconcileCall merged wordOf anyPair edgesOf openingAt samePair names openAt linkedAt
+    badSchedule pairConditions conditionsTo noHours loadAtCall
 computed = (refl, refl, refl)
 
 -- EVERY CASE OF THE TABLE comes out as it must.

@@ -1,6 +1,6 @@
 -- The laws of packed bits: a bit that was written is read back, every other bit is as it was, the length and the bytes' range are kept, and a
 -- list of bytes is known by its bits. `get-is`, `on-is` and `off-is` say what the masks of the code compute. Assumes nothing.
-use mathlib.Core.Bool.{Bool, false, not, or-false, or-true, true, _||_}
+use mathlib.Core.Bool.{Bool, cond, false, not, or-false, or-true, true, _||_}
 use mathlib.Core.List.{List}
 use mathlib.Core.Logic.{_≢_}
 use mathlib.Core.Path.{ap, ap₂, refl, sym, _∙_, _≡_}
@@ -210,22 +210,30 @@ byte-bit xs k j h =
     let d : 7 - i % 8 ≡ j = omega arith in
     ap₂ (λ m e. bitOf (getD xs m 0) e) q d
 
--- one bit more is set
-pub set-bytesOf : (f : ℕ → Bool) (m p : ℕ) → p / 8 < m → withBit (bytesOf f m) p true ≡ bytesOf (λ i. f i || eqb p i) m
-set-bytesOf f m p h =
-    let g : ℕ → Bool = λ i. f i || eqb p i in
-    let long : length (withBit (bytesOf f m) p true) ≡ m = length-with-bit (bytesOf f m) p true ∙ length-bytesOf f m in
-    same-bits (withBit (bytesOf f m) p true) (bytesOf g m) (long ∙ sym (length-bytesOf g m)) (bytes-with-bit (bytesOf f m) p true (bytes-bytesOf f m))
+-- one bit is put
+pub put-bytesOf : (f : ℕ → Bool) (m p : ℕ) (on : Bool) → p / 8 < m → withBit (bytesOf f m) p on ≡ bytesOf (λ i. cond (eqb p i) on (f i)) m
+put-bytesOf f m p on h =
+    let g : ℕ → Bool = λ i. cond (eqb p i) on (f i) in
+    let long : length (withBit (bytesOf f m) p on) ≡ m = length-with-bit (bytesOf f m) p on ∙ length-bytesOf f m in
+    same-bits (withBit (bytesOf f m) p on) (bytesOf g m) (long ∙ sym (length-bytesOf g m)) (bytes-with-bit (bytesOf f m) p on (bytes-bytesOf f m))
     (bytes-bytesOf g m) (λ i l.
     let inside : i < 8 * m = omega (arith, long) in
     elim (ℕ-discrete i p) [
       | yes e ↦
-          ap (bitAt (withBit (bytesOf f m) p true)) e ∙ bit-with-same (bytesOf f m) p true (omega (arith, length-bytesOf f m))
-          ∙ sym (bit-bytesOf g m i inside ∙ ap (λ t. f i || t) (eq-eqb p i (sym e)) ∙ or-true (f i))
+          ap (bitAt (withBit (bytesOf f m) p on)) e ∙ bit-with-same (bytesOf f m) p on (omega (arith, length-bytesOf f m))
+          ∙ sym (bit-bytesOf g m i inside ∙ ap (λ t. cond t on (f i)) (eq-eqb p i (sym e)))
       | no d ↦
-          bit-with-other (bytesOf f m) p i true d ∙ bit-bytesOf f m i inside
-          ∙ sym (bit-bytesOf g m i inside ∙ ap (λ t. f i || t) (ne-eqb p i (λ e. d (sym e))) ∙ or-false (f i))
+          bit-with-other (bytesOf f m) p i on d ∙ bit-bytesOf f m i inside
+          ∙ sym (bit-bytesOf g m i inside ∙ ap (λ t. cond t on (f i)) (ne-eqb p i (λ e. d (sym e))))
     ])
+
+-- one bit more is set
+pub set-bytesOf : (f : ℕ → Bool) (m p : ℕ) → p / 8 < m → withBit (bytesOf f m) p true ≡ bytesOf (λ i. f i || eqb p i) m
+set-bytesOf f m p h = put-bytesOf f m p true h ∙ (λ j. bytesOf (λ i. either (eqb p i) (f i) j) m)
+  where
+    either : (t x : Bool) → cond t true x ≡ x || t
+    either true x = sym (or-true x)
+    either false x = sym (or-false x)
 
 -- none is
 pub clear-bytesOf : (f : ℕ → Bool) (m : ℕ) → ((i : ℕ) → f i ≡ false) → replicate m 0 ≡ bytesOf f m

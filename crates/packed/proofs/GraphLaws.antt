@@ -3,7 +3,7 @@ use mathlib.Core.Bool.{Bool, false, true, _&&_}
 use mathlib.Core.Logic.{inl, inr, _≢_}
 use mathlib.Core.Path.{ap, refl, sym, _∙_, _≡_}
 use Prim.Native.Nat.{_*_, _<_, ℕ, _≤_}
-use native.Mathlib.Decide.{decLt}
+use native.Mathlib.Decide.{decLt, ℕ-discrete}
 use native.Mathlib.Omega.{arith}
 use borrow.Author.Tests.{eq-eqb, eqb-true}
 use lib.Dec.{eqb}
@@ -13,7 +13,7 @@ use Rattle.arith.proofs.Tests.{and-true, same-test, test}
 use Rattle.arith.specs.Sums.{anyTo}
 use Rattle.packed.proofs.BitLaws.{bit-bytesOf, bit-past, bytes-bytesOf, length-bytesOf}
 use Rattle.packed.proofs.EdgeLaws.{edge-comm, edge-self, edge-two}
-use Rattle.packed.proofs.PairLaws.{pair-inj, pair-lt}
+use Rattle.packed.proofs.PairLaws.{pair-comm, pair-inj, pair-lt, pair-onto}
 use Rattle.packed.specs.Bits.{bitAt, bytesFor, bytesOf}
 use Rattle.packed.specs.Edges.{edge, edgesOf}
 use Rattle.packed.specs.inside.Bytes.{Bytes}
@@ -63,7 +63,7 @@ module _ (g : ℕ → ℕ → Bool) (n : ℕ) where
       sym (ap (λ c. g c (s .1)) first ∙ ap (g a) second) ∙ q .1)
       (λ e. pair-here (numbered (pairIndex a b)) n a b ha hb (rw (eq-eqb (pairIndex a b) (pairIndex a b) refl, e)))
 
-  pub edges-by : (f : ℕ → Bool) → ((i : ℕ) → f i ≡ anyPair (λ a b. eqb (pairIndex a b) i && g a b) n) → bytesOf f (bytesFor (pairCount n)) ≡ edgesOf g n
+  edges-by : (f : ℕ → Bool) → ((i : ℕ) → f i ≡ anyPair (λ a b. eqb (pairIndex a b) i && g a b) n) → bytesOf f (bytesFor (pairCount n)) ≡ edgesOf g n
   unfolding edgesOf
   edges-by f h = λ j. bytesOf (λ i. h i j) (bytesFor (pairCount n))
 
@@ -94,4 +94,39 @@ module _ (g : ℕ → ℕ → Bool) (n : ℕ) where
       | yes k ↦ edge-comm (edgesOf g n) a b ∙ edge-below b a k ha ∙ comm b a
       | no k ↦ let same : a ≡ b = omega arith in edge-self (edgesOf g n) a b same ∙ sym (ap (g a) (sym same) ∙ self a)
     ]
+  ]
+
+-- ---- the bits of a graph by the numbers of its pairs
+
+-- f i is whether the pair of number i is linked, and is false past the pairs of n nodes
+pub record Numbered (g : ℕ → ℕ → Bool) (n : ℕ) (f : ℕ → Bool) : Type 0 where
+  pub two : (a b : ℕ) → a ≢ b → g a b ≡ f (pairIndex a b)
+  pub self : (a : ℕ) → g a a ≡ false
+  pub within : (i : ℕ) → f i ≡ true → i < pairCount n
+
+module _ {g : ℕ → ℕ → Bool} {n : ℕ} {f : ℕ → Bool} (h : Numbered g n f) where
+  pub numbered-comm : (a b : ℕ) → g a b ≡ g b a
+  numbered-comm a b = elim (ℕ-discrete a b) [
+    | yes e ↦ ap (g a) (sym e) ∙ ap (λ x. g x a) e
+    | no d ↦ h .two a b d ∙ ap f (pair-comm a b) ∙ sym (h .two b a (λ e. d (sym e)))
+  ]
+
+  number-bit : (i : ℕ) → f i ≡ anyPair (λ a b. eqb (pairIndex a b) i && g a b) n
+  number-bit i = same-test (f i) (anyPair (numbered g n i) n)
+      (λ e.
+      let (a, b, ha, hb, at) = pair-onto n i (h .within i e) in
+      pair-here (numbered g n i) n a b ha hb (rw (eq-eqb (pairIndex a b) i at) (h .two a b (omega arith) ∙ ap f at ∙ e)))
+      (λ e.
+      let (a, b, ha, hb, t) = pair-some (numbered g n i) n e in
+      let q = and-true (eqb (pairIndex a b) i) (g a b) t in
+      ap f (sym (eqb-true (pairIndex a b) i (q .0))) ∙ sym (h .two a b (omega (arith, ha))) ∙ q .1)
+
+  pub edges-numbered : bytesOf f (bytesFor (pairCount n)) ≡ edgesOf g n
+  edges-numbered = edges-by g n f number-bit
+
+  -- of m bytes that hold them
+  pub edge-numbered : (m : ℕ) → pairCount n ≤ 8 * m → (a b : ℕ) → a < n → b < n → edge (bytesOf f m) a b ≡ g a b
+  edge-numbered m room a b ha hb = elim (ℕ-discrete a b) [
+    | yes e ↦ edge-self _ a b e ∙ sym (ap (g a) (sym e) ∙ h .self a)
+    | no d ↦ edge-two _ a b d ∙ bit-bytesOf f m (pairIndex a b) (omega (arith, pair-lt a b n d ha hb)) ∙ sym (h .two a b d)
   ]

@@ -8,3 +8,4 @@ pub mod RowLaws
 pub mod RunLaws
 pub mod SetLaws
 pub mod ShiftLaws
+pub mod WindowLaws

@@ -68,7 +68,12 @@ run-at f q end p e a b =
     let place : end - q - 1 - (p - q) ≡ end - 1 - p = omega arith in
     ap₂ bitOf e (sym place) ∙ run-bit f q (end - q) (p - q) (omega arith) ∙ ap f at
 
--- as code cuts it from the 64 bits of its first byte on
+-- a field of a record: `count` of its bits, after its first `before`
+pub run-field : (bs : List ℕ) (from before count after : ℕ) {run r : ℕ} → run ≡ runOf bs from (before + count + after) → r ≡ run / 2 ^ after % 2 ^ count
+    → r ≡ runOf bs (from + before) count
+run-field bs from before count after e g = g ∙ ap (λ y. y / 2 ^ after % 2 ^ count) e ∙ run-cut (bitAt bs) from before count after
+
+-- as code takes it from the 64 bits of its first byte on
 pub run-word : (bs : List ℕ) (from count : ℕ) {x r : ℕ} → from % 8 + count ≤ 64 → x ≡ runOf bs (8 * (from / 8)) 64
     → r ≡ x / 2 ^ (64 - from % 8 - count) % 2 ^ count → r ≡ runOf bs from count
 run-word bs from count h e g =
@@ -76,8 +81,7 @@ run-word bs from count h e g =
     let t : ℕ = 64 - s - count in
     let all : 64 ≡ s + count + t = omega arith in
     let start : 8 * (from / 8) + s ≡ from = omega arith in
-    g ∙ ap (λ y. y / 2 ^ t % 2 ^ count) (e ∙ ap (runOf bs (8 * (from / 8))) all) ∙ run-cut (bitAt bs) (8 * (from / 8)) s count t
-    ∙ ap (λ i. runOf bs i count) start
+    run-field bs (8 * (from / 8)) s count t (e ∙ ap (runOf bs (8 * (from / 8))) all) g ∙ ap (λ i. runOf bs i count) start
 
 -- `1 << k`
 pub shifted-one : (k : ℕ) → k < 64 → 1 * 2 ^ k % 2 ^ 64 ≡ 2 ^ k
@@ -156,3 +160,12 @@ run-or bs k a b h eu ev =
     ∙ ap (λ z. bitOr z y) (shl-exact (8 * a) (8 * b) 64 (run-lt (bitAt bs) (8 * k) (8 * a)) h)
     ∙ or-shifted x (8 * b) y (run-lt (bitAt bs) (8 * k + 8 * a) (8 * b))
     ∙ sym (run-cat (bitAt bs) (8 * k) (8 * a) (8 * b)) ∙ ap (runOf bs (8 * k)) all
+
+-- four bytes, and of the four that end m bytes further those that follow: `u << 8 * m | v % 2 ^ (8 * m)`
+pub run-more : (bs : List ℕ) (k m : ℕ) {u v w : ℕ} → m < 4 → u ≡ runOf bs (8 * k) 32 → v ≡ runOf bs (8 * (k + m)) 32 → w ≡ v / 2 ^ 0 % 2 ^ (8 * m)
+    → bitOr (u * 2 ^ (8 * m) % 2 ^ 64) w ≡ runOf bs (8 * k) (8 * (4 + m))
+run-more bs k m h eu ev ew =
+    let all : 32 ≡ 32 - 8 * m + 8 * m + 0 = omega arith in
+    let at : 8 * (k + m) + (32 - 8 * m) ≡ 8 * (k + 4) = omega arith in
+    run-or bs k 4 m (omega arith) eu
+    (run-field bs (8 * (k + m)) (32 - 8 * m) (8 * m) 0 (ev ∙ ap (runOf bs (8 * (k + m))) all) ew ∙ ap (λ i. runOf bs i (8 * m)) at)

@@ -5,3 +5,4 @@ pub mod Room
 pub mod Rows
 pub mod Runs
 pub mod Search
+pub mod Windows

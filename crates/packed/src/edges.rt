@@ -4,10 +4,11 @@ use crate::bits::put;
 use crate::rows::row_of;
 use crate::rows::size_of;
 use crate::rows::words_for;
+ghost use mathlib.Core.Logic.{_≢_};
 ghost use mathlib.Core.Path.{_≡_};
 ghost use Prim.Native.Nat.{_+_, _≤_, _<_, max};
 ghost use Rattle.arith.specs.Sums.{countTo};
-ghost use Rattle.packed.specs.Pairs.{maxNodes, pairCount, pairIndex};
+ghost use Rattle.packed.specs.Pairs.{maxNodes, pairCount, pairIndex, samePair};
 ghost use Rattle.packed.specs.inside.Room.{Room};
 ghost use Rattle.packed.specs.Edges.{edge, withEdge};
 
@@ -28,6 +29,31 @@ pub fn index(a: usize, b: usize) -> usize
     ensures { λ r. ⌜ r ≡ pairIndex a b ⌝ }
 {
     row_start(b) + a
+}
+
+// The bit of the pair of two nodes, in either order.
+pub fn number(a: usize, b: usize) -> usize
+    requires { ⌜ (a ≢ b) × (a < maxNodes) × (b < maxNodes) ⌝ }
+    ensures { λ r. ⌜ r ≡ pairIndex a b ⌝ }
+{
+    if a < b {
+        return index(a, b);
+    }
+    index(b, a)
+}
+
+// Whether x and y are the pair of a and b, in either order.
+pub fn same_pair(x: usize, y: usize, a: usize, b: usize) -> bool
+    requires { ⌜ x ≢ y ⌝ }
+    ensures { λ r. ⌜ r ≡ samePair x y a b ⌝ }
+{
+    if x == a {
+        return y == b;
+    }
+    if x == b {
+        return y == a;
+    }
+    false
 }
 
 // Whether nodes a and b are linked, in either order. No node is linked to itself.

@@ -4,3 +4,4 @@ pub mod degrees;
 pub mod edges;
 pub mod rows;
 pub mod runs;
+pub mod windows;

@@ -18,14 +18,6 @@ pub fn least(a: usize, b: usize) -> usize
     b
 }
 
-// The 16 bits from byte k on.
-pub fn half_at(bits: &[u8], k: usize) -> u16
-    requires { ⌜ k + 2 ≤ length (now bits) ⌝ }
-    ensures { λ r. ⌜ r ≡ runOf (now (bits .entry)) (8 * k) 16 ⌝ }
-{
-    bits[k] as u16 * 256 + bits[k + 1] as u16
-}
-
 // The 32 bits from byte k on.
 fn quad_at(bits: &[u8], k: usize) -> u64
     requires { ⌜ k + 4 ≤ length (now bits) ⌝ }
@@ -69,12 +61,22 @@ pub(crate) fn word_at(bits: &[u8], k: usize) -> u64
     quad_at(bits, k) << 32 | quad_at(bits, k + 4)
 }
 
-// The `count` bits of a word that are before its last `after`.
-fn cut(word: u64, after: usize, count: usize) -> u64
+// The `count` bits of a run that are before its last `after`: so a field of a packed record, whose bits are a run.
+pub fn field(run: u64, after: usize, count: usize) -> u64
     requires { ⌜ (after < 64) × (count < 64) ⌝ }
-    ensures { λ r. ⌜ r ≡ word / 2 ^ after % 2 ^ count ⌝ }
+    ensures { λ r. ⌜ r ≡ run / 2 ^ after % 2 ^ count ⌝ }
 {
-    (word >> after) % (1u64 << count)
+    (run >> after) % (1u64 << count)
+}
+
+// The bits of the bytes from byte k on, of four to seven: the first four, and of the last four those that follow. So a packed record of whole bytes is
+// read, whose fields `field` then gives. A byte's number fits where that of its first bit may not.
+pub fn bytes_at(bits: &[u8], k: usize, bytes: usize) -> u64
+    requires { ⌜ (4 ≤ bytes) × (bytes < 8) × (k + bytes ≤ length (now bits)) ⌝ }
+    ensures { λ r. ⌜ r ≡ runOf (now (bits .entry)) (8 * k) (8 * bytes) ⌝ }
+{
+    let rest = 8 * (bytes - 4);
+    quad_at(bits, k) << rest | field(quad_at(bits, k + (bytes - 4)), 0, rest)
 }
 
 // The number of the `count` bits from `from` on.
@@ -82,5 +84,5 @@ pub fn run_of(bits: &[u8], from: usize, count: usize) -> u64
     requires { ⌜ (0 < count) × (count ≤ maxRun) × (from + count ≤ 8 * length (now bits)) ⌝ }
     ensures { λ r. ⌜ r ≡ runOf (now (bits .entry)) from count ⌝ }
 {
-    cut(word_at(bits, from / 8), 64 - from % 8 - count, count)
+    field(word_at(bits, from / 8), 64 - from % 8 - count, count)
 }

@@ -1,7 +1,7 @@
--- What the port answers as one number: of a list, with everything lent, and of the next change. Assumes nothing.
+-- What the port answers as one number: of a list, with everything lent, of the next change, and of the record that counts. Assumes nothing.
 use mathlib.Core.Bool.{cond}
 use mathlib.Core.List.{List}
-use Prim.Native.Nat.{ℕ}
+use Prim.Native.Nat.{ℕ, _^_}
 use denote.Ref.{now}
 use Rattle.state.specs.Lent.{atEntry, atExit, Moments}
 use Rattle.state.specs.Refusal.{oneNumber}
@@ -11,6 +11,7 @@ use Rattle.topk.specs.List.{Listed, listCall}
 use Rattle.topk.specs.ListLent.{EntryMoments}
 use Rattle.listing.specs.Records.{entriesCall}
 use Rattle.schedule.specs.Change.{minutes, Next}
+use Rattle.survey.specs.Position.{Answer}
 
 -- the answer, and everything lent as the call leaves it; the entries are numbers in a row, or records
 pub record Ported (A : Type 0) : Type 0 where
@@ -42,3 +43,7 @@ atPortExit answer links figures marks entries scratch = ported answer (atExit li
 -- the next change: the minute, and the number past the last minute for none
 abbrev pub asOneChange : Next → ℕ
 asOneChange x = oneNumber (x .refusal) (cond (x .some) (x .minute) minutes)
+
+-- the record that counts: its position, and 2 ^ 63 for none
+abbrev pub asOneRecord : Answer → ℕ
+asOneRecord x = oneNumber (x .refusal) (cond (x .some) (x .position) (2 ^ 63))

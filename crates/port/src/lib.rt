@@ -10,6 +10,9 @@ use schedule::change::next_change;
 use schedule::sheet::load_at;
 use schedule::sheet::write_at;
 use state::refusal::one_number;
+use survey::position::Latest;
+use survey::position::latest_record;
+use survey::sheet::write_latest;
 use topk::entries::Entry;
 use topk::list::Answer;
 use topk::list::list;
@@ -18,11 +21,13 @@ ghost use Rattle.merge.specs.Reconcile.{reconcileCall};
 ghost use Rattle.preview.specs.Preview.{previewAddCall, previewed, previewRemoveCall};
 ghost use Rattle.schedule.specs.Change.{nextOf, numbersOf};
 ghost use Rattle.schedule.specs.Sheet.{loadAtCall, writeAtCall};
+ghost use Rattle.survey.specs.Position.{answerOf, numbersOf as positionNumbers};
+ghost use Rattle.survey.specs.Sheet.{sheetCall};
 ghost use Rattle.state.specs.Outcome.{left};
 ghost use Rattle.state.specs.Refusal.{oneNumber};
 ghost use Rattle.state.specs.Lent.{atEntry, atExit};
 ghost use Rattle.calls.specs.Snapshot.{loadCall, written, writeCall};
-ghost use Rattle.port.specs.Port.{asOneChange, atPortEntry, atPortExit, portEntries, portList};
+ghost use Rattle.port.specs.Port.{asOneChange, asOneRecord, atPortEntry, atPortExit, portEntries, portList};
 
 // Loads a sheet.
 #[no_mangle]
@@ -171,4 +176,39 @@ pub extern "C" fn fj_port_schedule_load(
     ensures { λ r. ⌜ left r (atExit links figures marks) ≡ loadAtCall (atEntry links figures marks) (now (schedule .entry)) minute ⌝ }
 {
     load_at(links, figures, marks, schedule, minute)
+}
+
+// Writes the sheet of a survey at a threshold.
+#[no_mangle]
+pub extern "C" fn fj_port_survey_write(
+    survey: &[u8],
+    n: u64,
+    threshold: u64,
+    sheet: &mut [u8],
+) -> u64
+    ensures { λ r. ⌜ written r (now (sheet .exit)) ≡ sheetCall (now (survey .entry)) n threshold (now (sheet .entry)) ⌝ }
+{
+    write_latest(survey, n as usize, threshold, sheet)
+}
+
+// Stands for no record, where a position would stand.
+const NO_RECORD: u64 = 9223372036854775808;
+
+// A record as one number: its position, or that there is none, or 2^64 less the refusal number.
+fn number_of_record(latest: Latest) -> u64
+    ensures { λ r. ⌜ r ≡ asOneRecord (positionNumbers latest) ⌝ }
+{
+    match latest {
+        Latest::At { position } => position as u64,
+        Latest::NoRecord => NO_RECORD,
+        Latest::Refused { refusal } => one_number(refusal, NO_RECORD),
+    }
+}
+
+// The position of the record of a survey that counts for a pair.
+#[no_mangle]
+pub extern "C" fn fj_port_survey_position(survey: &[u8], n: u64, a: u64, b: u64) -> u64
+    ensures { λ r. ⌜ r ≡ asOneRecord (answerOf (now (survey .entry)) n a b) ⌝ }
+{
+    number_of_record(latest_record(survey, n as usize, a as usize, b as usize))
 }

@@ -1,21 +1,27 @@
 -- How the calls that write and load a schedule at a minute end. Assumes nothing.
-use mathlib.Core.Bool.{false, true}
+use mathlib.Core.Bool.{cond}
 use mathlib.Core.List.{List, [], _∷_, _++_}
-use mathlib.Core.Path.{sym, _∙_, _≡_}
+use mathlib.Core.Path.{ap, sym, _∙_, _≡_}
 use Prim.Native.Nat.{ℕ}
 use native.Mathlib.Omega.{arith}
 use borrow.Author.Tests.{ne-eqb}
+use lib.Dec.{eqb}
 use lib.ListN.{length}
-use Rattle.state.proofs.RefusalLaws.{append-refused, Fitted, fitted-append, passed-after, passed-length, refusal-none, refused-after, refused-length}
+use Rattle.state.proofs.RefusalLaws.{append-refused, Fitted, fitted-append, passed-length, refused-length}
 use Rattle.state.specs.Outcome.{left, lengths, stateLengths}
-use Rattle.state.specs.Refusal.{Condition, crowdedAfter, everyone, refusal, tooMany}
+use Rattle.state.specs.Refusal.{Condition, crowdedAfter, everyone, refusal}
 use Rattle.state.specs.Sizes.{snapshotBytes}
 use Rattle.state.specs.State.{size, State}
+use Rattle.calls.proofs.MadeLaws.{made-call, madeOf}
 use Rattle.calls.proofs.OutcomeLaws.{refused-is}
-use Rattle.calls.specs.Snapshot.{loaded, written}
+use Rattle.calls.specs.inside.Made.{madeCall}
+use Rattle.calls.specs.Snapshot.{loaded, Written, written}
+use Rattle.schedule.proofs.NumberLaws.{schedule-numbered}
 use Rattle.schedule.proofs.RecordLaws.{form-refused, form-rest, records-refused, records-rest}
 use Rattle.schedule.specs.Schedule.{badSchedule, linkedAt, recordConditions, scheduleNodes}
 use Rattle.schedule.specs.Sheet.{edgesAt, loadAtCall, loadAtConditions, sheetAt, writeAtCall, writeAtConditions}
+use Rattle.schedule.specs.inside.Numbers.{linkedNo}
+use Rattle.schedule.specs.inside.Records.{Valid}
 
 -- ---- write
 
@@ -48,16 +54,13 @@ module _ (schedule : List ℕ) (t : ℕ) (buffer : List ℕ) where
         pub write-records : (records ≡ 0 → ⊥) → written records buffer ≡ writeAtCall schedule t buffer
         write-records d = write-refused (records-refused schedule q d (crowded ∷ []) ∙ sym sized) d
 
-        module _ (y : records ≡ 0) where
-          pub write-crowded : tooMany (linkedAt schedule t) n everyone ≡ true → written 12 buffer ≡ writeAtCall schedule t buffer
-          write-crowded c =
-              write-refused (sym (sized ∙ records-rest schedule q y (crowded ∷ []) ∙ refused-after [] (linkedAt schedule t) n everyone c)) (λ e. omega arith)
-
-          pub write-accepted : tooMany (linkedAt schedule t) n everyone ≡ false → {out : List ℕ} → out ≡ sheetAt schedule t
-              → written 0 out ≡ writeAtCall schedule t buffer
-          unfolding writeAtCall
-          write-accepted c o =
-              rw (sized ∙ records-rest schedule q y (crowded ∷ []) ∙ passed-after [] (linkedAt schedule t) n everyone c ∙ refusal-none, o)
+        -- where they pass, the write of what was made answers
+        pub write-made : records ≡ 0 → Valid schedule → {out : Written} → out ≡ madeCall (madeOf n (linkedNo schedule t)) n buffer
+            → out ≡ writeAtCall schedule t buffer
+        unfolding writeAtCall
+        write-made y v e =
+            e ∙ made-call (schedule-numbered schedule (v .each) t) (v .few) buffer l
+            ∙ ap (λ r. written r (cond (eqb r 0) (sheetAt schedule t) buffer)) (sym (sized ∙ records-rest schedule q y (crowded ∷ [])))
 
 -- ---- load
 

@@ -9,13 +9,14 @@ use native.Mathlib.Omega.{arith}
 use borrow.Author.Tests.{le-ltb, lt-ltb, ne-eqb}
 use Rattle.arith.proofs.Tests.{test}
 use Rattle.arith.specs.Sums.{bit}
+use Rattle.packed.specs.inside.Windows.{window}
 use Rattle.state.specs.Refusal.{refusal}
 use Rattle.schedule.proofs.UntilLaws.{pass-lasts, pass-still, pass-total, total, total-most}
 use Rattle.schedule.specs.Change.{changeCall, changeConditions, firstDiffering, minutes, nextOf, numbersOf}
 use Rattle.schedule.specs.Schedule.{recordCount}
 use Rattle.schedule.specs.declared.change.Change.{Change}
 use Rattle.schedule.specs.declared.change.Change.the-variants.{At, Never, Refused}
-use Rattle.schedule.specs.inside.Until.{Lasts, movedTo, passTo, Rests, Scope, window}
+use Rattle.schedule.specs.inside.Until.{Lasts, movedTo, passTo, Rests, Scope}
 
 -- ---- a pass over all records, from what `pass` ensures
 

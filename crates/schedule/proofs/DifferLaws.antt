@@ -14,6 +14,7 @@ use Rattle.arith.proofs.Sums.{anyTo-false, anyTo-here, anyTo-never, some-of}
 use Rattle.arith.proofs.Tests.{and-true, test}
 use Rattle.packed.specs.Bits.{differ}
 use Rattle.packed.specs.inside.Search.{FirstFrom}
+use Rattle.packed.specs.inside.Windows.{window}
 use Rattle.schedule.proofs.OpenLaws.{linked-by, linked-of, Opened, unlinked-by}
 use Rattle.schedule.proofs.PlaceLaws.{changes-placed, linked-changes, open-moves, place-at, Placed, unlinked-changes}
 use Rattle.schedule.specs.Change.{minutes}
@@ -21,7 +22,7 @@ use Rattle.schedule.specs.Schedule.{openingAt, recordCount}
 use Rattle.schedule.specs.declared.records.Opening.{Opening}
 use Rattle.schedule.specs.inside.Numbers.{differsIn, linkedNo}
 use Rattle.schedule.specs.inside.Records.{Valid}
-use Rattle.schedule.specs.inside.Until.{changedBy, changedTo, Lasts, placeOf, Rests, Scope, scope, window}
+use Rattle.schedule.specs.inside.Until.{changedBy, changedTo, Lasts, placeOf, Rests, Scope, scope}
 
 -- ---- pairs of a window that differ
 

@@ -10,13 +10,13 @@ use borrow.Author.Tests.{eq-eqb, le-ltb, lt-ltb, ne-eqb}
 use Rattle.arith.proofs.Sums.{anyTo-never}
 use Rattle.arith.proofs.Tests.{and-false, test}
 use Rattle.packed.proofs.FirstLaws.{least-first}
-use Rattle.packed.proofs.GraphLaws.{pair-here, pair-some}
+use Rattle.packed.proofs.GraphLaws.{numbered-comm, pair-here, pair-some}
 use Rattle.packed.specs.Bits.{differ}
 use Rattle.packed.specs.inside.Search.{FirstFrom}
 use Rattle.state.specs.Refusal.{refusal}
 use Rattle.calls.proofs.AcceptLaws.{passes}
 use Rattle.schedule.proofs.DifferLaws.{differ-same}
-use Rattle.schedule.proofs.NumberLaws.{linked-comm, linked-self}
+use Rattle.schedule.proofs.NumberLaws.{schedule-numbered}
 use Rattle.schedule.proofs.RecordLaws.{sounds-by}
 use Rattle.schedule.proofs.OpenLaws.{shut-after, to-lt}
 use Rattle.schedule.specs.Change.{changeCall, changeConditions, differsAt, firstDiffering, minutes, numbersOf}
@@ -74,8 +74,8 @@ module _ (schedule : List ℕ) (t : ℕ) where
     same-all m e a b ha hb = elim (decLt a b) [
       | yes l ↦ same-below m e a b l hb
       | no l ↦ elim (decLt b a) [
-        | yes k ↦ linked-comm schedule v m a b ∙ same-below m e b a k ha ∙ linked-comm schedule v t b a
-        | no k ↦ let q : b ≡ a = omega arith in rw q (linked-self schedule v m a ∙ sym (linked-self schedule v t a))
+        | yes k ↦ numbered-comm (schedule-numbered schedule v m) a b ∙ same-below m e b a k ha ∙ numbered-comm (schedule-numbered schedule v t) b a
+        | no k ↦ let q : b ≡ a = omega arith in rw q (schedule-numbered schedule v m .self a ∙ sym (schedule-numbered schedule v t .self a))
       ]
     ]
 

@@ -3,22 +3,15 @@ use mathlib.Core.Bool.{Bool, false, or-false, or-true, true}
 use mathlib.Core.List.{List}
 use mathlib.Core.Logic.{inl, inr}
 use mathlib.Core.Path.{ap, refl, sym, _∙_, _≡_}
-use Prim.Native.Nat.{_+_, _<_, min, suc, zero, ℕ}
+use Prim.Native.Nat.{_+_, min, suc, zero, ℕ}
 use native.Mathlib.Numerals.{add-one}
 use lib.ListN.{length, length-set}
 use Rattle.arith.proofs.Tests.{test}
 use Rattle.arith.specs.Sums.{anyTo}
-use Rattle.packed.specs.Pairs.{maxNodes}
 use Rattle.schedule.proofs.PlaceLaws.{lengthened-not, lengthened-so}
-use Rattle.schedule.proofs.RecordLaws.{sound-most}
-use Rattle.schedule.specs.Schedule.{openingAt, recordCount}
+use Rattle.schedule.specs.Schedule.{openingAt}
 use Rattle.schedule.specs.declared.records.Opening.{Opening}
-use Rattle.schedule.specs.inside.Records.{Sound, Valid}
 use Rattle.schedule.specs.inside.Until.{changedBy, changedTo, lengthened, lengthens, movedTo, passTo, placeOf, Scope}
-
--- a record of a valid schedule
-pub sound-at : {schedule : List ℕ} {i : ℕ} {r : Opening} → Valid schedule → i < recordCount schedule → r ≡ openingAt schedule i → Sound maxNodes r
-sound-at {i = i} v h e = rw e (sound-most (v .each i h) (v .few))
 
 length-lengthened : (w : Scope) (until : List ℕ) (r : Opening) → length (lengthened w until r) ≡ length until
 length-lengthened w until r = elim (test (lengthens w until r)) [

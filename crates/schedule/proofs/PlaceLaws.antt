@@ -1,19 +1,21 @@
 -- The laws of a record's place in a window, and of what the record does to the minute of its pair there. Assumes nothing.
-use mathlib.Core.Bool.{_&&_, false, true}
+use mathlib.Core.Bool.{false, true}
 use mathlib.Core.List.{List}
 use mathlib.Core.Logic.{inl, inr, _⊎_, _≢_}
 use mathlib.Core.Path.{refl, sym, _∙_, _≡_}
-use Prim.Native.Nat.{_+_, _-_, _<_, ℕ, _≤_}
+use Prim.Native.Nat.{_+_, _<_, ℕ, _≤_}
 use native.Mathlib.Omega.{arith}
-use borrow.Author.Tests.{le-leb, le-ltb, leb-true, lt-leb, lt-ltb, ltb-true}
-use lib.Dec.{leb, ltb}
+use borrow.Author.Tests.{le-ltb, lt-ltb, ltb-true}
+use lib.Dec.{ltb}
 use lib.ListN.{getD, set}
 use Rattle.arith.proofs.Tests.{and-true, test}
+use Rattle.packed.proofs.WindowLaws.{place-in, place-or as inside-or}
+use Rattle.packed.specs.inside.Windows.{placeIn, window}
 use Rattle.schedule.proofs.OpenLaws.{open-by, open-of, shut-after, shut-before}
 use Rattle.schedule.specs.Schedule.{openAt}
 use Rattle.schedule.specs.declared.records.Opening.{Opening}
 use Rattle.schedule.specs.inside.Numbers.{numberOf}
-use Rattle.schedule.specs.inside.Until.{changedBy, inWindow, lengthened, lengthens, placeOf, Scope, window, within}
+use Rattle.schedule.specs.inside.Until.{changedBy, lengthened, lengthens, placeOf, Scope, within}
 
 -- ---- the place
 
@@ -26,22 +28,19 @@ pub record Placed (w : Scope) (r : Opening) : Type 0 where
 module _ (w : Scope) (r : Opening) where
   -- it is looked at, or its place is `window`
   place-or : Placed w r ⊎ (placeOf w r ≡ window)
-  unfolding placeOf within inWindow
-  place-or = elim (test (within w r && inWindow w (numberOf r))) [
-    | inl e ↦
-        let b = and-true (within w r) (inWindow w (numberOf r)) e in
-        let c = and-true (ltb (w .t) (r .to)) (ltb (r .from) (w .limit)) (b .0) in
-        let d = and-true (leb (w .start) (numberOf r)) (ltb (numberOf r) (w .start + window)) (b .1) in
-        let low : w .start ≤ numberOf r = leb-true _ _ (d .0) in
-        let high : numberOf r < w .start + window = ltb-true _ _ (d .1) in
-        inl (record { number = rw e (omega arith); inside = rw e (omega arith); late = ltb-true _ _ (c .0) })
+  unfolding placeOf within
+  place-or = elim (test (within w r)) [
+    | inl e ↦ elim (inside-or (w .start) (numberOf r)) [
+      | inl i ↦ inl (record { number = rw e (i .number); inside = rw e (i .below); late = ltb-true _ _ (and-true (ltb (w .t) (r .to)) _ e .0) })
+      | inr o ↦ inr (rw e o)
+    ]
     | inr e ↦ inr (rw e)
   ]
 
   pub placed : placeOf w r < window → Placed w r
   placed h = elim place-or [ inl p ↦ p | inr e ↦ absurd (omega arith) ]
 
-  -- a record that is not looked at: it has no minutes there,
+  -- a record that has no minutes there,
   pub place-ended : r .to ≤ w .t → window ≡ placeOf w r
   unfolding placeOf within
   place-ended h = rw (le-ltb (w .t) (r .to) h)
@@ -50,26 +49,13 @@ module _ (w : Scope) (r : Opening) where
   unfolding placeOf within
   place-late h l = rw (lt-ltb (w .t) (r .to) h, le-ltb (r .from) (w .limit) l)
 
-  -- or its pair is in another window
-  module _ {p : ℕ} (h : w .t < r .to) (l : r .from < w .limit) (is : p ≡ numberOf r) where
-    looked : within w r ≡ true
-    unfolding within
-    looked = rw (lt-ltb (w .t) (r .to) h, lt-ltb (r .from) (w .limit) l)
-
-    pub place-before : p < w .start → window ≡ placeOf w r
-    unfolding placeOf inWindow
-    place-before b = rw (looked, ← is, lt-leb (w .start) p b)
-
-    pub place-past : w .start ≤ p → window ≤ p - w .start → window ≡ placeOf w r
-    unfolding placeOf inWindow
-    place-past b m = rw (looked, ← is, le-leb (w .start) p b, le-ltb p (w .start + window) (omega arith))
-
-    pub place-in : w .start ≤ p → p - w .start < window → p - w .start ≡ placeOf w r
-    unfolding placeOf inWindow
-    place-in b m = rw (looked, ← is, le-leb (w .start) p b, lt-ltb p (w .start + window) (omega arith))
+  -- and one that has some
+  pub place-looked : w .t < r .to → r .from < w .limit → placeIn (w .start) (numberOf r) ≡ placeOf w r
+  unfolding placeOf within
+  place-looked h l = rw (lt-ltb (w .t) (r .to) h, lt-ltb (r .from) (w .limit) l)
 
   pub place-at : (k : ℕ) → k < window → numberOf r ≡ w .start + k → w .t < r .to → r .from < w .limit → k ≡ placeOf w r
-  place-at k h e late early = omega (arith, place-in late early refl (omega arith) (omega arith))
+  place-at k h e late early = omega (arith, place-in (w .start) (numberOf r) (omega arith) (omega arith), place-looked late early)
 
 -- a record that is looked at has a place within the table
 pub place-below : (w : Scope) (r : Opening) {k : ℕ} → k ≡ placeOf w r → k ≢ window → k < window

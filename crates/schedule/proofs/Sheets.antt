@@ -16,7 +16,7 @@ use Rattle.packed.specs.Edges.{edge}
 use Rattle.packed.specs.inside.Bytes.{Bytes}
 use Rattle.packed.specs.Pairs.{pairCount}
 use Rattle.state.proofs.CrowdedLaws.{after-agree}
-use Rattle.state.proofs.RefusalLaws.{passed-other, refused-other}
+use Rattle.state.proofs.RefusalLaws.{append-none, passed-other, refused-other}
 use Rattle.state.specs.Outcome.{lengths, outcome}
 use Rattle.state.specs.Refusal.{bufferLength, Condition, crowdedAfter, everyone, otherCount, refusal, snapshotNodes, spareSet}
 use Rattle.state.specs.Sizes.{edgeBytes, snapshotBytes}
@@ -25,7 +25,7 @@ use Rattle.calls.proofs.AcceptLaws.{append-same, lengths-rest, outcome-accepted
 use Rattle.calls.proofs.RoundTrip.{sheet-back}
 use Rattle.calls.proofs.SnapshotLaws.{passed-snapshot}
 use Rattle.calls.specs.Snapshot.{loadCall, loadConditions, loaded, snapshotOf}
-use Rattle.schedule.proofs.RecordLaws.{records-none, records-rest, sounds-by}
+use Rattle.schedule.proofs.RecordLaws.{records-rest, sounds-by}
 use Rattle.schedule.proofs.SheetLaws.{sheet-agree}
 use Rattle.schedule.specs.Change.{changeConditions}
 use Rattle.schedule.specs.Schedule.{badSchedule, linkedAt, recordConditions, scheduleNodes}
@@ -106,7 +106,7 @@ module _ (schedule : List ℕ) (t : ℕ) (buffer : List ℕ) (z : writeAtCall sc
   written-asked =
       let f = passes (badSchedule schedule) _ (λ e. omega arith) z in
       let l = passes (bufferLength (snapshotBytes (scheduleNodes schedule)) (length buffer)) _ (λ e. omega arith) (f .1) in
-      form-passed schedule (f .0) (records-none schedule _ (l .1))
+      form-passed schedule (f .0) (append-none (recordConditions schedule) _ (l .1))
 
   -- LOAD AT A MINUTE is a load of the sheet that is written at it.
   pub load-at-written : (s : State) → loadAtCall s schedule t ≡ loadCall s (writeAtCall schedule t buffer .snapshot)
@@ -118,7 +118,7 @@ pub load-at-asked : (s : State) (schedule : List ℕ) (t : ℕ) → loadAtCall s
 unfolding loadAtCall outcome badSchedule
 load-at-asked s schedule t z =
     let form = passes (badSchedule schedule) (lengths s ++ loadAtConditions (size s) schedule t) (λ e. omega arith) z in
-    form-passed schedule (form .0) (records-none schedule _ (lengths-rest s (loadAtConditions (size s) schedule t) (form .1)))
+    form-passed schedule (form .0) (append-none (recordConditions schedule) _ (lengths-rest s (loadAtConditions (size s) schedule t) (form .1)))
 
 sheet-bytes : (schedule : List ℕ) (t : ℕ) → Bytes schedule → Bytes (sheetAt schedule t)
 sheet-bytes schedule t small zero = omega (arith, small 0)
@@ -143,7 +143,7 @@ module _ (n : ℕ) (schedule : List ℕ) (t : ℕ) (z : refusal (badSchedule sch
   asked = passes (badSchedule schedule) (loadAtConditions n schedule t) (λ e. omega arith) z
 
   none : refusal (recordConditions schedule) ≡ 0
-  none = records-none schedule _ (asked .1)
+  none = append-none (recordConditions schedule) _ (asked .1)
 
   -- the schedule is of n nodes, and its edges at the minute are the links then
   pub loaded-nodes : scheduleNodes schedule ≡ n

@@ -12,13 +12,14 @@ use lib.Seq.{getD-set-other, getD-set-same}
 use Rattle.arith.proofs.Sums.{anyTo-false, sumTo-ext, sumTo-le}
 use Rattle.arith.proofs.Tests.{test}
 use Rattle.arith.specs.Sums.{anyTo, sumTo}
+use Rattle.packed.specs.inside.Windows.{window}
 use Rattle.schedule.proofs.OpenLaws.{linked-by, to-lt}
 use Rattle.schedule.proofs.PlaceLaws.{lengthened-not, lengthened-so, Longer, longer-of, placed}
 use Rattle.schedule.specs.Change.{minutes}
 use Rattle.schedule.specs.Schedule.{openingAt, recordCount}
 use Rattle.schedule.specs.declared.records.Opening.{Opening}
 use Rattle.schedule.specs.inside.Numbers.{linkedNo}
-use Rattle.schedule.specs.inside.Until.{Lasts, lengthened, lengthens, movedTo, passTo, placeOf, Rests, Scope, scope, window}
+use Rattle.schedule.specs.inside.Until.{Lasts, lengthened, lengthens, movedTo, passTo, placeOf, Rests, Scope, scope}
 
 -- ---- at the start each pair's minute is t
 

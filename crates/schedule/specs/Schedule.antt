@@ -6,8 +6,9 @@ use lib.Dec.{eqb, leb, ltb}
 use lib.ListN.{length}
 use Rattle.arith.specs.Sums.{anyTo, tabulate}
 use Rattle.packed.specs.Bits.{runOf}
+use Rattle.packed.specs.Pairs.{samePair}
 use Rattle.ego.specs.Graph.{Graph}
-use Rattle.state.specs.Refusal.{Condition, nodeNumber, sameNodes, noHours, snapshotNodes}
+use Rattle.state.specs.Refusal.{Condition, noHours, pairConditions, snapshotNodes}
 use Rattle.schedule.specs.declared.records.Opening.{Opening}
 
 -- byte n - 1,
@@ -29,7 +30,7 @@ openingAt schedule i =
 
 -- a record is for the pair of a and b, which it names in either order,
 unfoldable pub names : Opening → ℕ → ℕ → Bool
-names r a b = eqb (r .a) a && eqb (r .b) b || eqb (r .a) b && eqb (r .b) a
+names r a b = samePair (r .a) (r .b) a b
 
 -- and has from ≤ t < to
 unfoldable pub openAt : Opening → ℕ → Bool
@@ -46,9 +47,7 @@ badSchedule schedule = (9, eqb (length schedule) 0 || not (eqb ((length schedule
 -- 4, 5 and 13, each tested over all records, against the schedule's own n; the first k records:
 unfoldable pub conditionsTo : List ℕ → ℕ → List Condition
 conditionsTo schedule k =
-    let n : ℕ = scheduleNodes schedule in
-    tabulate (λ i. nodeNumber n (openingAt schedule i .a)) k ++ tabulate (λ i. nodeNumber n (openingAt schedule i .b)) k
-    ++ tabulate (λ i. sameNodes (openingAt schedule i .a) (openingAt schedule i .b)) k
+    pairConditions (scheduleNodes schedule) (tabulate (λ i. (openingAt schedule i .a, openingAt schedule i .b)) k)
     ++ tabulate (λ i. noHours (openingAt schedule i .from) (openingAt schedule i .to)) k
 
 abbrev pub recordConditions : List ℕ → List Condition

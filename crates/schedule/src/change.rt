@@ -6,25 +6,24 @@ use crate::records::form_refusal;
 use crate::records::nodes;
 use crate::records::opening_at;
 use crate::records::record_refusal;
-use packed::edges::index;
+use packed::edges::number;
 use packed::edges::row_start;
 use packed::runs::least;
+use packed::windows::WINDOW;
 ghost use mathlib.Core.Path.{_≡_};
 ghost use Prim.Native.Nat.{_+_, _<_, _≤_};
 ghost use lib.ListN.{length};
 ghost use Rattle.packed.specs.Pairs.{maxNodes};
 ghost use Rattle.packed.specs.inside.Search.{FirstFrom};
+ghost use Rattle.packed.specs.inside.Windows.{window};
 ghost use Rattle.schedule.specs.Schedule.{recordCount};
 ghost use Rattle.schedule.specs.Change.{changeCall, firstDiffering, minutes, nextOf, numbersOf};
-ghost use Rattle.schedule.specs.inside.Numbers.{differsIn, numberOf};
+ghost use Rattle.schedule.specs.inside.Numbers.{differsIn};
 ghost use Rattle.schedule.specs.inside.Records.{Sound, Valid};
-ghost use Rattle.schedule.specs.inside.Until.{changedBy, changedTo, lengthened, lengthens, movedTo, passTo, placeOf, scope, window};
+ghost use Rattle.schedule.specs.inside.Until.{changedBy, changedTo, lengthened, lengthens, movedTo, passTo, placeOf, scope};
 
 // A minute is below this number.
 const MINUTES: usize = 65536;
-
-// The pairs of a window.
-const WINDOW: usize = 8192;
 
 // The answer.
 pub enum Change {
@@ -33,17 +32,6 @@ pub enum Change {
     // No link differs at any later minute.
     Never,
     Refused { refusal: u64 },
-}
-
-// The number of a record's pair.
-fn number(r: Opening) -> usize
-    requires { ⌜ Sound maxNodes r ⌝ }
-    ensures { λ p. ⌜ p ≡ numberOf r ⌝ }
-{
-    if r.a < r.b {
-        return index(r.a, r.b);
-    }
-    index(r.b, r.a)
 }
 
 // The place of a record's pair in the window from `start` on. It is WINDOW where the pair is in another, or where the record has no minute after
@@ -58,14 +46,7 @@ fn place(r: Opening, start: usize, minute: u16, limit: usize) -> usize
     if limit <= r.from as usize {
         return WINDOW;
     }
-    let p = number(r);
-    if p < start {
-        return WINDOW;
-    }
-    if WINDOW <= p - start {
-        return WINDOW;
-    }
-    p - start
+    packed::windows::place(number(r.a, r.b), start)
 }
 
 // A record that is open at its pair's minute makes the pair last up to its `to`; whether it did.

@@ -1,16 +1,17 @@
 // The records of a schedule, and the refusals of those that are not sound.
-use packed::runs::half_at;
+use packed::runs::bytes_at;
+use packed::runs::field;
 use state::refusal::MALFORMED;
 use state::refusal::NO_HOURS;
-use state::refusal::NODE;
-use state::refusal::SAME_NODE;
+use state::refusal::earlier;
+use state::refusal::pair_refusal;
 ghost use mathlib.Core.Path.{_≡_};
 ghost use mathlib.Core.List.{[], _∷_};
 ghost use Prim.Native.Nat.{_<_};
 ghost use lib.ListN.{length};
 ghost use Rattle.state.specs.Refusal.{refusal};
 ghost use Rattle.schedule.specs.Schedule.{badSchedule, openingAt, recordConditions, recordCount, scheduleNodes};
-ghost use Rattle.schedule.specs.inside.Records.{earlier, openingConditions};
+ghost use Rattle.schedule.specs.inside.Records.{openingConditions};
 
 // The bytes of a record.
 const RECORD_BYTES: usize = 6;
@@ -57,12 +58,12 @@ pub(crate) fn opening_at(schedule: &[u8], i: usize) -> Opening
     requires { ⌜ i < recordCount (now schedule) ⌝ }
     ensures { λ r. ⌜ r ≡ openingAt (now (schedule .entry)) i ⌝ }
 {
-    let at = 1 + RECORD_BYTES * i;
+    let record = bytes_at(schedule, 1 + RECORD_BYTES * i, RECORD_BYTES);
     Opening {
-        a: schedule[at] as usize,
-        b: schedule[at + 1] as usize,
-        from: half_at(schedule, at + 2),
-        to: half_at(schedule, at + 4),
+        a: field(record, 40, 8) as usize,
+        b: field(record, 32, 8) as usize,
+        from: field(record, 16, 16) as u16,
+        to: field(record, 0, 16) as u16,
     }
 }
 
@@ -70,35 +71,14 @@ pub(crate) fn opening_at(schedule: &[u8], i: usize) -> Opening
 fn fault(r: Opening, n: usize) -> u64
     ensures { λ x. ⌜ x ≡ refusal (openingConditions n r) ⌝ }
 {
-    if n <= r.a {
-        return NODE;
-    }
-    if n <= r.b {
-        return NODE;
-    }
-    if r.a == r.b {
-        return SAME_NODE;
+    let pair = pair_refusal(n, r.a, r.b);
+    if pair != 0 {
+        return pair;
     }
     if r.to <= r.from {
         return NO_HOURS;
     }
     0
-}
-
-// Of two refusals the one that is tested first; 0 is none.
-fn earlier(x: u64, y: u64) -> u64
-    ensures { λ r. ⌜ r ≡ earlier x y ⌝ }
-{
-    if x == 0 {
-        return y;
-    }
-    if y == 0 {
-        return x;
-    }
-    if x < y {
-        return x;
-    }
-    y
 }
 
 // Refusals 4, 5 and 13, each over all records.

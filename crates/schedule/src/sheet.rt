@@ -5,13 +5,11 @@ use crate::records::form_refusal;
 use crate::records::nodes;
 use crate::records::opening_at;
 use crate::records::record_refusal;
-use calls::snapshot::copy;
+use calls::made::MAX_SNAPSHOT;
+use calls::made::write_made;
 use calls::snapshot::load;
 use packed::edges::link;
-use state::crowded::any_over;
-use state::refusal::CROWDED_AFTER;
 use state::refusal::LENGTH;
-use state::sizes::MAX_EDGE_BYTES;
 use state::sizes::edge_bytes;
 use state::sizes::state_refusal;
 ghost use mathlib.Core.Bool.{cond, true};
@@ -31,9 +29,6 @@ ghost use Rattle.schedule.specs.Schedule.{openAt, scheduleNodes};
 ghost use Rattle.schedule.specs.Sheet.{loadAtCall, writeAtCall};
 ghost use Rattle.schedule.specs.inside.Numbers.{linkedNo};
 ghost use Rattle.schedule.specs.inside.Records.{Sound, Valid};
-
-// The bytes of the largest snapshot.
-const MAX_SNAPSHOT: usize = MAX_EDGE_BYTES + 1;
 
 // Links the two nodes of a record that is open at a minute.
 fn link_open(edges: &mut [u8], r: Opening, minute: u16)
@@ -86,12 +81,7 @@ pub fn write_at(schedule: &[u8], minute: u16, snapshot: &mut [u8]) -> u64
     }
     let mut made = [0u8; MAX_SNAPSHOT];
     make_at(&mut made[..], schedule, minute);
-    if any_over(&made[1..], n) {
-        return CROWDED_AFTER;
-    }
-    let size = snapshot.len();
-    copy(snapshot, &made[..size]);
-    0
+    write_made(snapshot, &made[..], n)
 }
 
 // Loads the snapshot of a schedule at a minute.

@@ -1,5 +1,6 @@
 // What stands at a bit's position of a script. The slice is the whole script with its first byte, which is n - 1, and a position counts the bits
 // from the start of the slice, so that the first record is at FIRST_RECORD.
+use packed::runs::field;
 use packed::runs::run_of;
 ghost use mathlib.Core.Path.{_≡_};
 ghost use Prim.Native.Nat.{_<_, _≤_, _^_};
@@ -68,9 +69,10 @@ fn item_at(script: &[u8], at: usize) -> Item
     if left < RECORD_BITS {
         return Item::Malformed;
     }
-    let kind = run_of(script, at, 2);
-    let a = run_of(script, at + 2, 8) as usize;
-    let b = run_of(script, at + 10, 8) as usize;
+    let record = run_of(script, at, RECORD_BITS);
+    let kind = field(record, 16, 2);
+    let a = field(record, 8, 8) as usize;
+    let b = field(record, 0, 8) as usize;
     if kind == 1 {
         return Item::Add { a, b };
     }

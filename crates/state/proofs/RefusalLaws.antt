@@ -30,6 +30,9 @@ append-refused [] ds e d = absurd (d (sym e))
 append-refused (c ∷ cs) ds e d =
     elim (test (c .1)) [ inl t ↦ rw t (rw t at e) | inr t ↦ rw t (append-refused cs ds (rw t at e) d) ]
 
+pub append-none : (cs ds : List Condition) → refusal (cs ++ ds) ≡ 0 → refusal cs ≡ 0
+append-none cs ds e = elim (ℕ-discrete (refusal cs) 0) [ yes z ↦ z | no d ↦ absurd (d (sym (append-refused cs ds refl d) ∙ e)) ]
+
 -- ---- the conditions, one by one: each turns a call back, or lets it pass
 
 module _ (cs : List Condition) where
@@ -130,6 +133,23 @@ module _ (cs : List Condition) where
   passed-after g n which e = rw e
 
 -- ---- lengths that are accepted
+
+-- from what `count_refusal` answers
+module _ (n : ℕ) {r : ℕ} (e : r ≡ refusal (nodeCount n ∷ [])) where
+  pub counted-by : r ≡ 0 → (0 < n) × (n ≤ maxNodes)
+  counted-by z = elim (ℕ-discrete n 0) [
+    | yes q ↦ absurd (omega (arith, refused-zero [] n q))
+    | no d ↦ elim (decLt maxNodes n) [
+      | yes h ↦ absurd (omega (arith, refused-above [] n h))
+      | no h ↦ (omega arith, omega arith)
+    ]
+  ]
+
+  pub count-rest : r ≡ 0 → (cs : List Condition) → refusal (nodeCount n ∷ cs) ≡ refusal cs
+  count-rest z cs = passed-count cs n (λ q. omega (arith, counted-by z .0)) (counted-by z .1)
+
+  pub count-refused : (r ≡ 0 → ⊥) → (cs : List Condition) → r ≡ refusal (nodeCount n ∷ cs)
+  count-refused d cs = sym (append-refused (nodeCount n ∷ []) cs (sym e) d)
 
 pub record Sized (n edges : ℕ) : Type 0 where
   pub some : 0 < n

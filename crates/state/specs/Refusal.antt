@@ -1,7 +1,7 @@
 -- The conditions under which a call turns back, in 01's order and with its numbers. Assumes nothing.
 use mathlib.Core.Bool.{Bool, true, not, cond, _&&_, _||_}
-use mathlib.Core.List.{List, [], _∷_}
-use Prim.Native.Nat.{ℕ, _+_, _-_, _*_, _^_}
+use mathlib.Core.List.{List, [], _∷_, _++_, map}
+use Prim.Native.Nat.{ℕ, _+_, _-_, _*_, _%_, _^_}
 use lib.Dec.{eqb, ltb, leb}
 use lib.ListN.{length, getD, drop}
 use Rattle.arith.specs.Sums.{anyTo}
@@ -43,6 +43,11 @@ nodeNumber n p = (4, leb n p)
 -- 5. The two posts are the same.
 unfoldable pub sameNodes : ℕ → ℕ → Condition
 sameNodes a b = (5, eqb a b)
+
+-- 4 and 5 of some pairs, each tested over all of them
+unfoldable pub pairConditions : ℕ → List (ℕ × ℕ) → List Condition
+pairConditions n pairs =
+    map (λ p. nodeNumber n (p .0)) pairs ++ map (λ p. nodeNumber n (p .1)) pairs ++ map (λ p. sameNodes (p .0) (p .1)) pairs
 
 -- 6. An add names a link that exists.
 unfoldable pub edgePresent : Graph → ℕ → ℕ → Condition
@@ -102,3 +107,7 @@ crowdedAfter g n which = (12, tooMany g n which)
 -- 13. A record's from is not below its to. It is tested after 5.
 unfoldable pub noHours : ℕ → ℕ → Condition
 noHours from to = (13, leb to from)
+
+-- 14. A survey is not a whole number of records. It is tested after 2 and before 4.
+unfoldable pub partRecord : ℕ → ℕ → Condition
+partRecord required actual = (14, not (eqb (actual % required) 0))

@@ -1,6 +1,9 @@
-// The refusal numbers. A call tests what they stand for in their order, but for 13, which comes after 5. A call that is accepted answers 0.
+// The refusal numbers. A call tests what they stand for in their order, but for 13, which comes after 5, and 14, which comes before 4. A call that is
+// accepted answers 0.
+ghost use mathlib.Core.List.{[], _∷_};
 ghost use mathlib.Core.Path.{_≡_};
-ghost use Rattle.state.specs.Refusal.{oneNumber};
+ghost use Rattle.state.specs.Refusal.{oneNumber, pairConditions, refusal};
+ghost use Rattle.state.specs.inside.Earlier.{earlier};
 
 // The number of nodes is 0 or above MAX_NODES.
 pub const NODE_COUNT: u64 = 1;
@@ -40,6 +43,41 @@ pub const CROWDED_AFTER: u64 = 12;
 
 // A record's hours end where they begin, or before.
 pub const NO_HOURS: u64 = 13;
+
+// A survey is not a whole number of records.
+pub const PART_RECORD: u64 = 14;
+
+// Refusals 4 and 5 of a pair.
+pub fn pair_refusal(n: usize, a: usize, b: usize) -> u64
+    ensures { λ r. ⌜ r ≡ refusal (pairConditions n ((a, b) ∷ [])) ⌝ }
+{
+    if n <= a {
+        return NODE;
+    }
+    if n <= b {
+        return NODE;
+    }
+    if a == b {
+        return SAME_NODE;
+    }
+    0
+}
+
+// Of two refusals the one that is tested first; 0 is none.
+pub fn earlier(x: u64, y: u64) -> u64
+    ensures { λ r. ⌜ r ≡ earlier x y ⌝ }
+{
+    if x == 0 {
+        return y;
+    }
+    if y == 0 {
+        return x;
+    }
+    if x < y {
+        return x;
+    }
+    y
+}
 
 // The answer to C as one number: the value beside an acceptance, or 2^64 less the refusal number.
 pub fn one_number(refusal: u64, value: u64) -> u64

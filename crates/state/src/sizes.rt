@@ -3,12 +3,13 @@ use crate::refusal::LENGTH;
 use crate::refusal::NODE_COUNT;
 use packed::edges::MAX_NODES;
 use packed::edges::row_start;
+ghost use mathlib.Core.List.{[], _∷_};
 ghost use mathlib.Core.Path.{_≡_};
 ghost use Prim.Native.Nat.{_≤_};
 ghost use Rattle.packed.specs.Pairs.{maxNodes};
 ghost use Rattle.state.specs.Sizes.{edgeBytes};
 ghost use Rattle.state.specs.Marks.{markBytes};
-ghost use Rattle.state.specs.Refusal.{refusal};
+ghost use Rattle.state.specs.Refusal.{nodeCount, refusal};
 ghost use Rattle.state.specs.Outcome.{edgeLengths, stateLengths};
 
 // The bytes of the edges and the marks of MAX_NODES nodes.
@@ -32,15 +33,26 @@ pub fn mark_bytes(n: usize) -> usize
     (n + 7) / 8
 }
 
-// Refusals 1 and 2 of n nodes and so many bytes of edges.
-pub fn edge_refusal(n: usize, edges: usize) -> u64
-    ensures { λ r. ⌜ r ≡ refusal (edgeLengths n edges) ⌝ }
+// Refusal 1 of n nodes.
+pub fn count_refusal(n: usize) -> u64
+    ensures { λ r. ⌜ r ≡ refusal (nodeCount n ∷ []) ⌝ }
 {
     if n == 0 {
         return NODE_COUNT;
     }
     if MAX_NODES < n {
         return NODE_COUNT;
+    }
+    0
+}
+
+// Refusals 1 and 2 of n nodes and so many bytes of edges.
+pub fn edge_refusal(n: usize, edges: usize) -> u64
+    ensures { λ r. ⌜ r ≡ refusal (edgeLengths n edges) ⌝ }
+{
+    let count = count_refusal(n);
+    if count != 0 {
+        return count;
     }
     if edges != edge_bytes(n) {
         return LENGTH;

@@ -2,18 +2,15 @@
 use mathlib.Core.Bool.{Bool, true, false, cond, _&&_}
 use mathlib.Core.List.{List}
 use mathlib.Core.Path.{_≡_}
-use Prim.Native.Nat.{ℕ, zero, suc, _+_, _-_, _≤_, _<_, min}
-use lib.Dec.{leb, ltb}
+use Prim.Native.Nat.{ℕ, zero, suc, _+_, _≤_, _<_, min}
+use lib.Dec.{ltb}
 use lib.ListN.{length, getD, set}
 use Rattle.arith.specs.Sums.{anyTo}
+use Rattle.packed.specs.inside.Windows.{placeIn, window}
 use Rattle.schedule.specs.Change.{minutes}
 use Rattle.schedule.specs.Schedule.{openAt, openingAt}
 use Rattle.schedule.specs.declared.records.Opening.{Opening}
 use Rattle.schedule.specs.inside.Numbers.{linkedNo, numberOf}
-
--- how many pairs a window has
-abbrev pub window : ℕ
-window = 8192
 
 -- what is looked at: the pairs of the window that begins with the number `start`, from minute t on, up to a limit
 pub record Scope : Type 0 where
@@ -28,13 +25,9 @@ scope start t limit = record { start = start; t = t; limit = limit }
 unfoldable pub within : Scope → Opening → Bool
 within w r = ltb (w .t) (r .to) && ltb (r .from) (w .limit)
 
--- a number is in the window
-unfoldable pub inWindow : Scope → ℕ → Bool
-inWindow w p = leb (w .start) p && ltb p (w .start + window)
-
 -- the place of a record's pair in the window, and `window` where the record is not looked at
 unfoldable pub placeOf : Scope → Opening → ℕ
-placeOf w r = cond (within w r && inWindow w (numberOf r)) (numberOf r - w .start) window
+placeOf w r = cond (within w r) (placeIn (w .start) (numberOf r)) window
 
 -- a record makes its pair last longer: it is open at the pair's minute
 unfoldable pub lengthens : Scope → List ℕ → Opening → Bool

@@ -6,12 +6,13 @@ use native.Mathlib.Omega.{arith}
 use denote.Ref.{now}
 use lib.ListN.{length}
 use Rattle.arith.specs.Sums.{bit}
+use Rattle.packed.specs.inside.Windows.{window}
 use Rattle.schedule.proofs.ChangeLaws.{Searching, searching-less, searching-next}
 use Rattle.schedule.proofs.DifferLaws.{change-first}
 use Rattle.schedule.proofs.UntilLaws.{lasts-begin, total}
 use Rattle.schedule.specs.Change.{minutes}
 use Rattle.schedule.specs.inside.Records.{Valid}
-use Rattle.schedule.specs.inside.Until.{scope, window}
+use Rattle.schedule.specs.inside.Until.{scope}
 use Rattle.schedule.proofs.change.change_in.Statement.{statement}
 use Rattle.schedule.proofs.change.change_in.Tie as tie
 

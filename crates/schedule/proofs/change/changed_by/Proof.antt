@@ -2,8 +2,8 @@
 use Prim.Native.Nat.{_<_}
 use native.Mathlib.Omega.{arith}
 use borrow.Author.Needs.{needs}
+use Rattle.packed.specs.inside.Windows.{window}
 use Rattle.schedule.proofs.PlaceLaws.{linked-changes, outside-changes, place-below, unlinked-changes}
-use Rattle.schedule.specs.inside.Until.{window}
 use Rattle.schedule.proofs.change.changed_by.Statement.{statement}
 use Rattle.schedule.proofs.change.changed_by.Tie as tie
 

@@ -4,7 +4,8 @@ use Prim.Native.Nat.{_-_, zero-le, _≤_}
 use native.Mathlib.Nat.{le-antisymm}
 use native.Mathlib.Omega.{arith}
 use borrow.Author.Needs.{needs}
-use Rattle.schedule.proofs.PassLaws.{changed-more, changed-none, sound-at}
+use Rattle.schedule.proofs.PassLaws.{changed-more, changed-none}
+use Rattle.schedule.proofs.RecordLaws.{sound-at}
 use Rattle.schedule.specs.inside.Until.{changedTo, scope}
 use Rattle.schedule.proofs.change.first_in.Statement.{statement}
 use Rattle.schedule.proofs.change.first_in.Tie as tie

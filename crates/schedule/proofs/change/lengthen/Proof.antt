@@ -2,8 +2,8 @@
 use Prim.Native.Nat.{_<_}
 use native.Mathlib.Omega.{arith}
 use borrow.Author.Needs.{needs}
+use Rattle.packed.specs.inside.Windows.{window}
 use Rattle.schedule.proofs.PlaceLaws.{early-still, late-still, open-moves, outside-still, place-below}
-use Rattle.schedule.specs.inside.Until.{window}
 use Rattle.schedule.proofs.change.lengthen.Statement.{statement}
 use Rattle.schedule.proofs.change.lengthen.Tie as tie
 

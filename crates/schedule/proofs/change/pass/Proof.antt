@@ -6,7 +6,8 @@ use native.Mathlib.Nat.{le-antisymm}
 use native.Mathlib.Omega.{arith}
 use denote.Ref.{now}
 use lib.ListN.{length}
-use Rattle.schedule.proofs.PassLaws.{length-pass, moved-none, moved-once, moved-still, pass-more, pass-none, sound-at}
+use Rattle.schedule.proofs.PassLaws.{length-pass, moved-none, moved-once, moved-still, pass-more, pass-none}
+use Rattle.schedule.proofs.RecordLaws.{sound-at}
 use Rattle.schedule.specs.Schedule.{recordCount}
 use Rattle.schedule.specs.inside.Until.{movedTo, passTo, scope}
 use Rattle.schedule.proofs.change.pass.Statement.{statement}

@@ -4,10 +4,11 @@ use Prim.Native.Nat.{_-_, _≤_}
 use native.Mathlib.Nat.{le-antisymm}
 use native.Mathlib.Omega.{arith}
 use borrow.Author.Needs.{needs}
+use Rattle.state.specs.inside.Earlier.{earlier}
 use Rattle.state.specs.Refusal.{refusal}
 use Rattle.schedule.proofs.RecordLaws.{conditions-more, conditions-none}
 use Rattle.schedule.specs.Schedule.{conditionsTo}
-use Rattle.schedule.specs.inside.Records.{earlier, openingConditions}
+use Rattle.schedule.specs.inside.Records.{openingConditions}
 use Rattle.schedule.proofs.records.record_refusal.Statement.{statement}
 use Rattle.schedule.proofs.records.record_refusal.Tie as tie
 

@@ -1,6 +1,6 @@
 -- `schedule::sheet::link_all` meets its contract. After i turns the edges have the bits of the first i records. Assumes nothing.
 use mathlib.Core.Bool.{cond, true}
-use mathlib.Core.Path.{ap, ap₂, subst, sym, _∙_, _≡_}
+use mathlib.Core.Path.{ap, ap₂, refl, subst, sym, _∙_, _≡_}
 use Prim.Native.Nat.{_-_, _<_, _≤_}
 use native.Mathlib.Nat.{le-antisymm}
 use native.Mathlib.Omega.{arith}
@@ -9,7 +9,7 @@ use lib.ListN.{length}
 use Rattle.packed.specs.Edges.{withEdge}
 use Rattle.packed.specs.inside.Room.{Room}
 use Rattle.packed.specs.Pairs.{maxNodes}
-use Rattle.schedule.proofs.RecordLaws.{sound-most}
+use Rattle.schedule.proofs.RecordLaws.{sound-at}
 use Rattle.schedule.proofs.SheetLaws.{bits-long, bits-more, bits-none, bits-room, bitsTo}
 use Rattle.schedule.specs.Schedule.{openAt, openingAt}
 use Rattle.schedule.specs.inside.Records.{Sound}
@@ -34,8 +34,8 @@ start c = c .before .before .before .before
 sound : (c : tie.After-opening-at Inv-loop μ-loop) → Sound maxNodes (openingAt (now (start (turn c) .args .schedule)) (turn c .loop .i))
 sound c =
     let l = turn c in
-    let v = start l .pre .0 in
-    sound-most (v .each (l .loop .i) (subst (λ m. l .loop .i < m) (l .before .count .ensures) (c .before .before .loop-test .taken))) (v .few)
+    sound-at {r = openingAt (now (start l .args .schedule)) (l .loop .i)} (start l .pre .0)
+    (subst (λ m. l .loop .i < m) (l .before .count .ensures) (c .before .before .loop-test .taken)) refl
 
 returns : tie.Need-returns Inv-loop μ-loop
 returns c =

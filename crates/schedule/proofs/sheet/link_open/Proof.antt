@@ -34,7 +34,7 @@ returns-3 c =
 link-requires : tie.Need-link-requires
 link-requires c κs =
     let s = start c in
-    room-within (s .args .r .a) (s .args .r .b) _ (now (s .args .edges)) (s .pre .0 .first) (s .pre .0 .second) (s .pre .1)
+    room-within (s .args .r .a) (s .args .r .b) _ (now (s .args .edges)) (s .pre .0 .nodes .first) (s .pre .0 .nodes .second) (s .pre .1)
 
 pub link-open-spec : {M : Type 1} → statement M
 link-open-spec = tie.close (tie.spec returns returns-2 link-requires (λ c. search needs) returns-3)

@@ -13,14 +13,16 @@ use Rattle.state.specs.Lent.{lent}
 use Rattle.state.specs.Refusal.{refusal}
 use Rattle.state.specs.Sizes.{snapshotBytes}
 use Rattle.state.specs.State.{State}
+use Rattle.calls.proofs.MadeLaws.{made-long, made-sheet}
 use Rattle.calls.proofs.SnapshotLaws.{bytes-small}
 use Rattle.calls.specs.Snapshot.{loadCall}
 use Rattle.schedule.proofs.CallLaws.{load-form, load-lengths, load-records}
+use Rattle.schedule.proofs.NumberLaws.{schedule-numbered}
 use Rattle.schedule.proofs.RecordLaws.{form-rest, form-some, valid-by}
-use Rattle.schedule.proofs.SheetLaws.{made-long, made-sheet}
 use Rattle.schedule.proofs.Sheets.{load-at-load}
 use Rattle.schedule.specs.Change.{changeConditions}
 use Rattle.schedule.specs.Schedule.{recordConditions, scheduleNodes}
+use Rattle.schedule.specs.inside.Numbers.{linkedNo}
 use Rattle.schedule.specs.inside.Records.{Valid}
 use Rattle.schedule.proofs.sheet.load_at.Statement.{statement}
 use Rattle.schedule.proofs.sheet.load_at.Tie as tie
@@ -72,7 +74,8 @@ bytes c = ap (λ m. 1 + m) (c .edge-bytes .ensures) ∙ ap snapshotBytes (c .bef
 fits : (c : tie.After-edge-bytes) → 1 + c .edge-bytes .result ≤ length (made c .make-at .last .0)
 fits c =
     let f = passed (counted c) in
-    omega (arith, bytes c, ap length (made c .make-at .ensures), made-long (schedule f) (start f .args .minute), bytes-small (scheduleNodes (schedule f)) (few f))
+    let n = scheduleNodes (schedule f) in
+    omega (arith, bytes c, ap length (made c .make-at .ensures), made-long n (linkedNo (schedule f) (start f .args .minute)), bytes-small n (few f))
 
 -- ---- how it ends
 
@@ -101,7 +104,7 @@ returns-4 c =
     let f = passed e in
     loaded .load .ensures
     ∙ ap (loadCall (given f))
-    (ap₂ take (bytes sized) (made sized .make-at .ensures) ∙ made-sheet (schedule f) (start f .args .minute) (valid e))
+    (ap₂ take (bytes sized) (made sized .make-at .ensures) ∙ made-sheet (schedule-numbered (schedule f) (valid e .each) (start f .args .minute)) (few f))
     ∙ sym (load-at-load (schedule f) (start f .args .minute) (accepted e) (given f))
 
 -- ---- what the calls ask

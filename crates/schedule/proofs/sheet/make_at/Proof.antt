@@ -7,7 +7,7 @@ use borrow.Author.Needs.{needs}
 use borrow.Rule.Slice.PartMut.{same-len-mid}
 use denote.Ref.{now}
 use lib.ListN.{getD, length, length-set, set}
-use Rattle.schedule.proofs.SheetLaws.{headed-long, headed-put, headed-rest}
+use Rattle.calls.proofs.MadeLaws.{headed-long, headed-put, headed-rest}
 use Rattle.schedule.specs.Schedule.{scheduleNodes}
 use Rattle.schedule.proofs.sheet.make_at.Statement.{statement}
 use Rattle.schedule.proofs.sheet.make_at.Tie as tie

@@ -5,20 +5,17 @@ use Prim.Native.Nat.{_+_, _<_, ℕ, _≤_}
 use native.Mathlib.Omega.{arith}
 use borrow.Author.Needs.{needs}
 use denote.Ref.{now}
-use lib.ListN.{drop, length, take}
-use lib.Seq.{length-take-le}
-use Rattle.packed.specs.Edges.{edge}
+use lib.ListN.{drop, length}
 use Rattle.packed.specs.inside.Room.{Room}
 use Rattle.packed.specs.Pairs.{maxNodes}
-use Rattle.state.proofs.CrowdedLaws.{tooMany-agree}
-use Rattle.state.specs.Refusal.{everyone, tooMany}
-use Rattle.state.specs.inside.MaxSizes.{maxEdgeBytes}
 use Rattle.state.specs.Sizes.{snapshotBytes}
+use Rattle.calls.proofs.MadeLaws.{made-long, made-room, madeOf}
 use Rattle.calls.proofs.SnapshotLaws.{bytes-small}
-use Rattle.schedule.proofs.CallLaws.{write-accepted, write-buffer, write-crowded, write-form, write-records}
+use Rattle.calls.specs.inside.Made.{madeCall}
+use Rattle.schedule.proofs.CallLaws.{write-buffer, write-form, write-made, write-records}
 use Rattle.schedule.proofs.RecordLaws.{form-some, valid-by}
-use Rattle.schedule.proofs.SheetLaws.{made-agree, made-edges, made-long, made-room, made-sheet, madeAt}
-use Rattle.schedule.specs.Schedule.{linkedAt, scheduleNodes}
+use Rattle.schedule.specs.Schedule.{scheduleNodes}
+use Rattle.schedule.specs.inside.Numbers.{linkedNo}
 use Rattle.schedule.specs.inside.Records.{Valid}
 use Rattle.schedule.proofs.sheet.write_at.Statement.{statement}
 use Rattle.schedule.proofs.sheet.write_at.Tie as tie
@@ -34,8 +31,8 @@ sized c = c .before .before
 abbrev passed : tie.After-make-at → tie.Else3
 passed c = c .before .before
 
-abbrev made : tie.After-any-over → tie.After-make-at
-made c = c .before .before .before .before
+abbrev made : tie.After-made3 → tie.After-make-at
+made c = c .before .before .before
 
 abbrev start : tie.Else1 → tie.Start
 start c = c .before .before .before .before
@@ -60,28 +57,6 @@ long c = c .if2 .left ∙ bytes (c .before)
 valid : (c : tie.Else3) → Valid (lent (formed (sized c)))
 valid c = let f = formed (sized c) in valid-by (lent f) (some f) (few f) (sym (c .before .record-refusal .ensures) ∙ c .if3 .left)
 
-over : (c : tie.After-any-over) →
-    let f = formed (sized (passed (made c))) in
-    c .any-over .result ≡ tooMany (linkedAt (lent f) (start f .args .minute)) (scheduleNodes (lent f)) everyone
-over c =
-    let e = passed (made c) in
-    let f = formed (sized e) in
-    let t = start f .args .minute in
-    c .any-over .ensures
-    ∙ ap₂ (λ l m. tooMany (edge l) m everyone)
-    (ap (λ l. take maxEdgeBytes (drop 1 l)) (made c .make-at .ensures) ∙ made-edges (lent f) t) (sized e .before .before .nodes .ensures)
-    ∙ tooMany-agree (scheduleNodes (lent f)) _ _ everyone everyone (made-agree (lent f) t (valid e)) (λ p h. refl)
-
--- the sheet is a part of what was made
-fits : (c : tie.After-copy-arg) →
-    let m = made (c .before .before) in
-    length (now (start (formed (sized (passed m))) .args .snapshot)) ≤ length (m .make-at .last .0)
-fits c =
-    let m = made (c .before .before) in
-    let d = sized (passed m) in
-    let f = formed d in
-    omega (arith, long d, ap length (m .make-at .ensures), made-long (lent f) (start f .args .minute), bytes-small (scheduleNodes (lent f)) (few f))
-
 -- ---- how it ends
 
 returns : tie.Need-returns
@@ -100,23 +75,13 @@ returns-3 c =
 
 returns-4 : tie.Need-returns-4
 returns-4 c =
-    let e = passed (made (c .before)) in
-    let d = sized e in
-    let f = formed d in
-    write-crowded _ _ _ (f .before .form-refusal .ensures) (f .if1 .left) (long d) (e .before .record-refusal .ensures) (e .if3 .left)
-    (sym (over (c .before)) ∙ c .if4 .taken)
-
-returns-5 : tie.Need-returns-5
-returns-5 c =
-    let copied = c .before .before in
-    let checked = copied .before .before .before in
-    let m = made (checked .before) in
+    let write = c .before .before in
+    let m = made (write .before) in
     let e = passed m in
     let d = sized e in
     let f = formed d in
-    write-accepted _ _ _ (f .before .form-refusal .ensures) (f .if1 .left) (long d) (e .before .record-refusal .ensures) (e .if3 .left)
-    (sym (over (checked .before)) ∙ checked .if4 .left)
-    (copied .copy .ensures ∙ ap₂ take (long d) (m .make-at .ensures) ∙ made-sheet (lent f) (start f .args .minute) (valid e))
+    write-made _ _ _ (f .before .form-refusal .ensures) (f .if1 .left) (long d) (e .before .record-refusal .ensures) (e .if3 .left) (valid e)
+    (write .write-made .ensures ∙ ap₂ (λ l n. madeCall l n (now (start f .args .snapshot))) (m .make-at .ensures) (d .before .before .nodes .ensures))
 
 -- ---- what the calls ask
 
@@ -126,25 +91,22 @@ edge-bytes-requires c κs = omega (arith, c .nodes .ensures, few (c .before))
 add-if2 : tie.Need-add-if2
 add-if2 c = omega (arith, c .edge-bytes .ensures, bytes-small (c .before .nodes .result) (omega (arith, c .before .nodes .ensures, few (c .before .before))))
 
-any-over-requires : tie.Need-any-over-requires
-any-over-requires c κs =
-    let m = c .before .before .before in
+write-made-requires : tie.Need-write-made-requires
+write-made-requires c κs =
+    let m = made c in
     let d = sized (passed m) in
     let f = formed d in
-    let t = start f .args .minute in
-    let nodes = d .before .before .nodes in
-    subst (λ l. Room (nodes .result) (take maxEdgeBytes (drop 1 l))) (sym (m .make-at .ensures))
-    (subst (λ k. Room k (take maxEdgeBytes (drop 1 (madeAt (lent f) t)))) (sym (nodes .ensures)) (made-room (lent f) t (few f)))
-
-slice-aggregate-copy : tie.Need-slice-aggregate-copy
-slice-aggregate-copy c = sym (length-take-le _ _ (fits (c .before)))
-
-copy-requires : tie.Need-copy-requires
-copy-requires c κs = sym (length-take-le _ _ (fits (c .before)))
+    let n = scheduleNodes (lent f) in
+    let links = linkedNo (lent f) (start f .args .minute) in
+    let all = ap length (m .make-at .ensures) ∙ made-long n links in (
+      omega (arith, long d, all, bytes-small n (few f)),
+      omega (arith, all),
+      subst (λ l. Room (d .before .before .nodes .result) (drop 1 l)) (sym (m .make-at .ensures))
+          (subst (λ k. Room k (drop 1 (madeOf n links))) (sym (d .before .before .nodes .ensures)) (made-room n links (few f))),
+    )
 
 pub write-at-spec : {M : Type 1} → statement M
 write-at-spec =
     tie.close
     (tie.spec (λ c κs. search needs) returns (λ c κs. some c) edge-bytes-requires add-if2 returns-2 (λ c κs. some (formed c)) returns-3
-    (λ c. refl) (λ c κs. (valid (c .before), refl)) (λ c. search needs) (λ c. search needs) (λ c. search needs) any-over-requires returns-4 fits slice-aggregate-copy copy-requires
-    (λ c. search needs) returns-5)
+    (λ c. refl) (λ c κs. (valid (c .before), refl)) (λ c. search needs) write-made-requires (λ c. search needs) returns-4)

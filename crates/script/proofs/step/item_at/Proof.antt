@@ -2,11 +2,12 @@
 use mathlib.Core.Bool.{Bool, cond}
 use mathlib.Core.Path.{sym, _∙_, _≡_}
 use Prim.Native.Nat.{_*_, _+_, _≤_}
+use native.Mathlib.Nat.{add-zero}
 use native.Mathlib.Omega.{arith}
 use borrow.Author.Needs.{needs}
 use denote.Ref.{now}
 use lib.ListN.{length}
-use Rattle.packed.proofs.RunLaws.{run-lt}
+use Rattle.packed.proofs.RunLaws.{run-field, run-lt}
 use Rattle.packed.specs.Bits.{bitAt}
 use Rattle.script.proofs.RecordLaws.{RecordRead, left-room, item-add, item-few, item-list, item-list-b, item-other, item-remove}
 use Rattle.script.specs.Limits.{maxBytes, recordBits}
@@ -16,22 +17,25 @@ use Rattle.script.proofs.step.item_at.Statement.{statement}
 use Rattle.script.proofs.step.item_at.Tie as tie
 
 -- the bits that are left are enough, and where that was asked
-abbrev enough : tie.After-run-of3 → tie.Else1
-enough c = c .before .before .before
+abbrev enough : tie.After-field3 → tie.Else1
+enough c = c .before .before .before .before
 
 abbrev start : tie.Else1 → tie.Start
 start c = c .before .before .before
 
-found : (c : tie.After-run-of3)
-    → RecordRead (now (start (enough c) .args .script)) (start (enough c) .args .at) (enough c .before .bits-left .result) (c .before .before .run-of .result)
-    (c .before .run-of2 .result) (c .run-of3 .result)
-found c = record {
-  bits = enough c .before .bits-left .ensures;
-  enough = enough c .if1 .left;
-  kinds = c .before .before .run-of .ensures;
-  first = c .before .run-of2 .ensures;
-  second = c .run-of3 .ensures;
-}
+found : (c : tie.After-field3)
+    → RecordRead (now (start (enough c) .args .script)) (start (enough c) .args .at) (enough c .before .bits-left .result) (c .before .before .field .result)
+    (c .before .field2 .result) (c .field3 .result)
+found c =
+    let s = start (enough c) .args in
+    let read = c .before .before .before .run-of .ensures in
+    record {
+      bits = enough c .before .bits-left .ensures;
+      enough = enough c .if1 .left;
+      kinds = rw (add-zero (s .at)) at (run-field (now (s .script)) (s .at) 0 2 16 read (c .before .before .field .ensures));
+      first = run-field (now (s .script)) (s .at) 2 8 8 read (c .before .field2 .ensures);
+      second = run-field (now (s .script)) (s .at) 10 8 0 read (c .field3 .ensures);
+    }
 
 room : (c : tie.Else1) → (length (now (start c .args .script)) ≤ maxBytes) × (start c .args .at + recordBits ≤ 8 * length (now (start c .args .script)))
 room c =
@@ -43,18 +47,6 @@ returns c = item-few _ _ _ (c .before .bits-left .ensures) (c .if1 .taken)
 
 run-of-requires : tie.Need-run-of-requires
 run-of-requires c κs = (omega arith, omega arith, omega (arith, room c .1))
-
-add-run-of : tie.Need-add-run-of
-add-run-of c = omega (arith, room (c .before))
-
-run-of-requires-2 : tie.Need-run-of-requires-2
-run-of-requires-2 c κs = (omega arith, omega arith, omega (arith, room (c .before) .1))
-
-add-run-of-2 : tie.Need-add-run-of-2
-add-run-of-2 c = omega (arith, room (c .before .before))
-
-run-of-requires-3 : tie.Need-run-of-requires-3
-run-of-requires-3 c κs = (omega arith, omega arith, omega (arith, room (c .before .before) .1))
 
 returns-2 : tie.Need-returns-2
 returns-2 c = item-add _ _ (found (c .before)) (c .if2 .taken)
@@ -77,7 +69,7 @@ returns-5 c = let k = c .before in item-list _ _ (found (k .before .before .befo
 ends-script-requires : tie.Need-ends-script-requires
 ends-script-requires c κs = let f = found (c .before .before .before) in (f .bits, f .enough)
 
-abbrev left : tie.After-ends-script → tie.After-run-of3
+abbrev left : tie.After-ends-script → tie.After-field3
 left c = c .before .before .before .before
 
 other : (c : tie.After-ends-script) {ends : Bool} → c .ends-script .result ≡ ends
@@ -95,5 +87,5 @@ returns-7 c = other (c .before) (c .if6 .left)
 pub item-at-spec : {M : Type 1} → statement M
 item-at-spec =
     tie.close
-    (tie.spec (λ c κs. search needs) returns run-of-requires add-run-of run-of-requires-2 add-run-of-2 run-of-requires-3 returns-2 returns-3
-    add-k returns-4 returns-5 ends-script-requires returns-6 returns-7)
+    (tie.spec (λ c κs. search needs) returns run-of-requires (λ c κs. search needs) (λ c κs. search needs) (λ c κs. search needs)
+    returns-2 returns-3 add-k returns-4 returns-5 ends-script-requires returns-6 returns-7)

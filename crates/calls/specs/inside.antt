@@ -1,0 +1,2 @@
+-- What only the contracts inside the library cite: no promise needs it.
+pub mod Made

@@ -1,0 +1,11 @@
+pub mod AppendLaws
+pub mod CallLaws
+pub mod CountLaws
+pub mod Examples
+pub mod LatestCounts
+pub mod NumberLaws
+pub mod PassLaws
+pub mod PickLaws
+pub mod RecordLaws
+pub mod SurveyChanges
+pub mod ThinLaws
