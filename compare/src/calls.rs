@@ -36,6 +36,20 @@ pub trait Calls {
     /// The position of the record of a survey that counts for a pair, or 2^63.
     fn survey_position(&self, survey: &[u8], n: u64, a: u64, b: u64) -> u64;
     fn reconcile(&self, edges: &mut [u8], figures: &mut [u64], marks: &mut [u8], theirs: &[u8], base: &[u8]) -> u64;
+    /// Reconcile where the pins of either editor, a bit for each pair, confirm pairs.
+    #[expect(clippy::too_many_arguments, reason = "the C function has them")]
+    fn reconcile_pinned(
+        &self,
+        edges: &mut [u8],
+        figures: &mut [u64],
+        marks: &mut [u8],
+        pins: &[u8],
+        theirs: &[u8],
+        their_pins: &[u8],
+        base: &[u8],
+    ) -> u64;
+    /// The bit of the first pair on which both editors have spoken and which they left different, or 2^32.
+    fn conflict(&self, edges: &[u8], n: u64, pins: &[u8], theirs: &[u8], their_pins: &[u8], base: &[u8]) -> u64;
     fn list(
         &self,
         edges: &mut [u8],

@@ -36,9 +36,12 @@ impl Board<'_> {
     }
 }
 
-/// One node comes above its limit, where there are enough nodes: joined to all others, or to a few more than the limit,
-/// of which none has come to its own.
+/// One node comes above its limit, where there are enough nodes and the edges have their length: joined to all others, or
+/// to a few more than the limit, of which none has come to its own.
 pub fn crowd_one(rng: &mut Rng, n: usize, edges: &mut [u8]) {
+    if edges.len() != edge_bytes(n) {
+        return;
+    }
     let p = rng.below(n);
     if rng.chance(20) {
         (0..n).filter(|&q| q != p).for_each(|q| put_bit(edges, pair_index(p, q), true));

@@ -1,7 +1,7 @@
 //! Damage to what a call is given.
 
-use crate::crowd::crowd;
-use crate::generate::{node_count, random_edges};
+use crate::boards::{node_count, random_edges};
+use crate::crowd::{crowd, crowd_one};
 use crate::memory::{Call, Kind, Memory};
 use crate::plain::packing::{edge_bytes, mark_bytes};
 use crate::rng::Rng;
@@ -20,7 +20,9 @@ enum Damage {
     SnapshotFirst,
     Schedule,
     Survey,
+    Pins,
     Theirs,
+    TheirPins,
     Base,
     Entries,
     Changes,
@@ -29,6 +31,7 @@ enum Damage {
     B,
     Same,
     Crowd,
+    CrowdOne,
     OtherBoard,
 }
 
@@ -66,7 +69,9 @@ fn chosen(rng: &mut Rng, kind: Kind) -> Damage {
         Kind::ScheduleNext | Kind::ScheduleLoad => &[Schedule],
         Kind::SurveyWrite => &[Survey, Survey, Survey, Snapshot, N],
         Kind::SurveyPosition => &[Survey, Survey, N, A, B, Same],
-        Kind::Reconcile => &[Theirs, Base],
+        Kind::Reconcile => &[Theirs, Base, CrowdOne],
+        Kind::ReconcilePinned => &[Pins, Theirs, TheirPins, Base, CrowdOne, CrowdOne],
+        Kind::Conflict => &[N, Pins, Theirs, TheirPins, Base, CrowdOne],
         Kind::List | Kind::ListEntries => &[Scratch, Entries],
     };
     if rng.chance(60) || !kind.has_state() {
@@ -89,7 +94,9 @@ pub fn damage(rng: &mut Rng, n: usize, memory: &mut Memory, call: &mut Call) {
         Snapshot => resize(rng, &mut memory.snapshot),
         Schedule => damage_schedule(rng, &mut memory.schedule),
         Survey => damage_survey(rng, n, &mut memory.survey),
+        Pins => resize(rng, &mut memory.pins),
         Theirs => resize(rng, &mut memory.theirs),
+        TheirPins => resize(rng, &mut memory.their_pins),
         Base => resize(rng, &mut memory.base),
         Entries => {
             let length = wrong_length(rng, memory.entries.len());
@@ -104,6 +111,7 @@ pub fn damage(rng: &mut Rng, n: usize, memory: &mut Memory, call: &mut Call) {
         B => call.b = rng.pick(&far),
         Same => call.b = call.a,
         Crowd => crowd(rng, n, &mut memory.edges, call.a, call.b),
+        CrowdOne => crowd_one(rng, n, &mut memory.edges),
         SnapshotFirst => {
             if let Some(first) = memory.snapshot.first_mut() {
                 *first = rng.next() as u8;
@@ -126,7 +134,10 @@ fn other_board(rng: &mut Rng, n: usize, memory: &mut Memory, call: &mut Call) {
     call.n = other as u64;
     memory.figures = rng.bytes(8 * other);
     memory.marks = rng.bytes(mark_bytes(other));
-    memory.edges = rng.bytes(edge_bytes(other));
+    let Memory { edges, pins, theirs, their_pins, base, .. } = memory;
+    for bits in [edges, pins, theirs, their_pins, base] {
+        *bits = rng.bytes(edge_bytes(other));
+    }
     if matches!(call.kind, Kind::PreviewAdd | Kind::PreviewRemove) {
         memory.changes = (0..other).map(|_| rng.next() as i64).collect();
     }

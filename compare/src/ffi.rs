@@ -87,6 +87,10 @@ mod linked_library {
         fj_port_survey_write as survey_write(; survey: u8; n: u64, threshold: u64; snapshot: u8; ;);
         fj_port_survey_position as survey_position(; survey: u8; n: u64, a: u64, b: u64; ; ;);
         fj_port_reconcile as reconcile(; ; ; edges: u8, figures: u64, marks: u8; theirs: u8, base: u8;);
+        fj_port_reconcile_pinned as reconcile_pinned(
+            ; ; ; edges: u8, figures: u64, marks: u8; pins: u8, theirs: u8, their_pins: u8, base: u8;
+        );
+        fj_port_conflict as conflict(; edges: u8; n: u64; ; pins: u8, theirs: u8, their_pins: u8, base: u8;);
         fj_port_list as list(; ; ; edges: u8, figures: u64, marks: u8, entries: u64, scratch: u8; ;);
         fj_port_list_entries as list_entries(
             ; ; ; edges: u8, figures: u64, marks: u8, entries: Entry, scratch: u8; ;

@@ -2,6 +2,7 @@
 //! both, and the tools that write and read scripts, schedules, surveys and sheets.
 
 pub mod bench;
+mod boards;
 pub mod calls;
 mod crowd;
 mod damage;
@@ -10,8 +11,10 @@ mod generate;
 mod lines;
 mod memory;
 pub mod named;
+mod pinned_check;
 pub mod plain;
 mod preview_check;
+mod reconciles;
 mod record_damage;
 mod record_pairs;
 mod record_text;

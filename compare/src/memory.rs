@@ -20,11 +20,13 @@ pub enum Kind {
     PreviewRemove,
     Remove,
     Reconcile,
+    ReconcilePinned,
+    Conflict,
     List,
     ListEntries,
 }
 
-pub const KINDS: [Kind; 16] = [
+pub const KINDS: [Kind; 18] = [
     Kind::Clear,
     Kind::Load,
     Kind::Write,
@@ -39,6 +41,8 @@ pub const KINDS: [Kind; 16] = [
     Kind::PreviewRemove,
     Kind::Remove,
     Kind::Reconcile,
+    Kind::ReconcilePinned,
+    Kind::Conflict,
     Kind::List,
     Kind::ListEntries,
 ];
@@ -72,6 +76,8 @@ impl fmt::Display for Call {
             Kind::SurveyWrite => write!(f, "snapshot of a survey, n = {n}, threshold {threshold}"),
             Kind::SurveyPosition => write!(f, "record of a survey that counts, n = {n}, {a} and {b}"),
             Kind::Reconcile => write!(f, "reconcile"),
+            Kind::ReconcilePinned => write!(f, "reconcile with pins"),
+            Kind::Conflict => write!(f, "first conflict, n = {n}"),
             Kind::List => write!(f, "list"),
             Kind::ListEntries => write!(f, "list, entries as records"),
         }
@@ -82,7 +88,12 @@ impl Kind {
     /// The refusal in an answer of this kind of call, 0 for acceptance.
     pub fn refusal(self, answer: u64) -> u64 {
         match self {
-            Kind::Score | Kind::ScheduleNext | Kind::SurveyPosition | Kind::List | Kind::ListEntries => {
+            Kind::Score
+            | Kind::ScheduleNext
+            | Kind::SurveyPosition
+            | Kind::Conflict
+            | Kind::List
+            | Kind::ListEntries => {
                 let negated = answer.wrapping_neg();
                 if negated <= Refusal::LAST {
                     negated
@@ -111,7 +122,9 @@ pub struct Memory {
     pub snapshot: Vec<u8>,
     pub schedule: Vec<u8>,
     pub survey: Vec<u8>,
+    pub pins: Vec<u8>,
     pub theirs: Vec<u8>,
+    pub their_pins: Vec<u8>,
     pub base: Vec<u8>,
     /// The plain entries; as records, as many as there are whole ones.
     pub entries: Vec<u64>,
@@ -123,79 +136,62 @@ impl Memory {
     /// Runs the call of one version over this memory.
     pub fn run(&mut self, version: &dyn Calls, call: Call) -> u64 {
         let Call { kind, n, a, b, minute, threshold } = call;
+        let Memory { edges, marks, snapshot, schedule, survey, pins, theirs, their_pins, base, .. } = self;
+        let Memory { figures, entries, scratch, changes, .. } = self;
         match kind {
-            Kind::Clear => version.clear(n, &mut self.edges, &mut self.figures, &mut self.marks),
-            Kind::Add => version.add(n, &mut self.edges, &mut self.figures, &mut self.marks, a, b),
-            Kind::Remove => version.remove(n, &mut self.edges, &mut self.figures, &mut self.marks, a, b),
-            Kind::Score => version.score(n, &self.edges, a),
-            Kind::PreviewAdd => self.over_numbers(|memory, figures| {
-                version.preview_add(&memory.edges, figures, &memory.marks, &mut memory.changes, a, b)
+            Kind::Clear => version.clear(n, edges, figures, marks),
+            Kind::Add => version.add(n, edges, figures, marks, a, b),
+            Kind::Remove => version.remove(n, edges, figures, marks, a, b),
+            Kind::Score => version.score(n, edges, a),
+            Kind::PreviewAdd => {
+                over_numbers(figures, |figures| version.preview_add(edges, figures, marks, changes, a, b))
+            }
+            Kind::PreviewRemove => {
+                over_numbers(figures, |figures| version.preview_remove(edges, figures, marks, changes, a, b))
+            }
+            Kind::Load => over_numbers(figures, |figures| version.load(edges, figures, marks, snapshot)),
+            Kind::Write => over_numbers(figures, |figures| version.write(edges, figures, marks, snapshot)),
+            Kind::ScheduleWrite => version.schedule_write(schedule, minute, snapshot),
+            Kind::ScheduleNext => version.schedule_next(schedule, minute),
+            Kind::ScheduleLoad => {
+                over_numbers(figures, |figures| version.schedule_load(edges, figures, marks, schedule, minute))
+            }
+            Kind::SurveyWrite => version.survey_write(survey, n, threshold, snapshot),
+            Kind::SurveyPosition => version.survey_position(survey, n, a, b),
+            Kind::Reconcile => over_numbers(figures, |figures| version.reconcile(edges, figures, marks, theirs, base)),
+            Kind::ReconcilePinned => over_numbers(figures, |figures| {
+                version.reconcile_pinned(edges, figures, marks, pins, theirs, their_pins, base)
             }),
-            Kind::PreviewRemove => self.over_numbers(|memory, figures| {
-                version.preview_remove(&memory.edges, figures, &memory.marks, &mut memory.changes, a, b)
+            Kind::Conflict => version.conflict(edges, n, pins, theirs, their_pins, base),
+            Kind::List => over_numbers(figures, |figures| version.list(edges, figures, marks, entries, scratch)),
+            Kind::ListEntries => over_records(entries, |entries| {
+                over_numbers(figures, |figures| version.list_entries(edges, figures, marks, entries, scratch))
             }),
-            Kind::Load => self.over_numbers(|memory, figures| {
-                version.load(&mut memory.edges, figures, &mut memory.marks, &memory.snapshot)
-            }),
-            Kind::Write => self.over_numbers(|memory, figures| {
-                version.write(&mut memory.edges, figures, &mut memory.marks, &mut memory.snapshot)
-            }),
-            Kind::ScheduleWrite => version.schedule_write(&self.schedule, minute, &mut self.snapshot),
-            Kind::ScheduleNext => version.schedule_next(&self.schedule, minute),
-            Kind::ScheduleLoad => self.over_numbers(|memory, figures| {
-                version.schedule_load(&mut memory.edges, figures, &mut memory.marks, &memory.schedule, minute)
-            }),
-            Kind::SurveyWrite => version.survey_write(&self.survey, n, threshold, &mut self.snapshot),
-            Kind::SurveyPosition => version.survey_position(&self.survey, n, a, b),
-            Kind::Reconcile => self.over_numbers(|memory, figures| {
-                version.reconcile(&mut memory.edges, figures, &mut memory.marks, &memory.theirs, &memory.base)
-            }),
-            Kind::List => self.over_numbers(|memory, figures| {
-                version.list(&mut memory.edges, figures, &mut memory.marks, &mut memory.entries, &mut memory.scratch)
-            }),
-            Kind::ListEntries => self.over_numbers(|memory, figures| memory.list_entries(version, figures)),
         }
     }
 
-    fn list_entries(&mut self, version: &dyn Calls, figures: &mut [u64]) -> u64 {
-        let mut entries: Vec<Entry> =
-            self.entries.chunks_exact(2).map(|pair| Entry { node: pair[0], figure: pair[1] }).collect();
-        let answer = version.list_entries(&mut self.edges, figures, &mut self.marks, &mut entries, &mut self.scratch);
-        for (pair, entry) in self.entries.chunks_exact_mut(2).zip(entries) {
-            pair.copy_from_slice(&[entry.node, entry.figure]);
-        }
-        answer
-    }
-
-    fn over_numbers(&mut self, call: impl FnOnce(&mut Memory, &mut [u64]) -> u64) -> u64 {
-        let mut numbers: Vec<u64> = self
-            .figures
-            .chunks_exact(8)
-            .map(|bytes| u64::from_le_bytes(bytes.try_into().expect("eight bytes")))
-            .collect();
-        let answer = call(self, &mut numbers);
-        for (bytes, number) in self.figures.chunks_exact_mut(8).zip(numbers) {
-            bytes.copy_from_slice(&number.to_le_bytes());
-        }
-        answer
+    /// The buffers of bytes, by name.
+    fn bytes(&self) -> [(&'static str, &[u8]); 11] {
+        [
+            ("edges", &self.edges),
+            ("figures", &self.figures),
+            ("marks", &self.marks),
+            ("snapshot", &self.snapshot),
+            ("schedule", &self.schedule),
+            ("survey", &self.survey),
+            ("pins", &self.pins),
+            ("theirs", &self.theirs),
+            ("their pins", &self.their_pins),
+            ("base", &self.base),
+            ("scratch", &self.scratch),
+        ]
     }
 
     /// Where two memories differ first: the buffer, the place and both values.
     pub fn difference(&self, other: &Memory) -> Option<String> {
-        let bytes = [
-            ("edges byte", &self.edges, &other.edges),
-            ("figures byte", &self.figures, &other.figures),
-            ("marks byte", &self.marks, &other.marks),
-            ("snapshot byte", &self.snapshot, &other.snapshot),
-            ("schedule byte", &self.schedule, &other.schedule),
-            ("survey byte", &self.survey, &other.survey),
-            ("theirs byte", &self.theirs, &other.theirs),
-            ("base byte", &self.base, &other.base),
-            ("scratch byte", &self.scratch, &other.scratch),
-        ];
-        for (name, mine, yours) in bytes {
+        for ((name, mine), (_, yours)) in self.bytes().into_iter().zip(other.bytes()) {
             if let Some((place, mine, yours)) = first_difference(mine, yours) {
-                return Some(format!("{name} {place}: {mine:#04x} against {yours:#04x}"));
+                return Some(format!("{name} byte {place}: {mine:#04x} against {yours:#04x}"));
             }
         }
         if let Some((place, mine, yours)) = first_difference(&self.entries, &other.entries) {
@@ -206,6 +202,28 @@ impl Memory {
     }
 }
 
+/// Runs a call over figures as numbers.
+fn over_numbers(figures: &mut [u8], call: impl FnOnce(&mut [u64]) -> u64) -> u64 {
+    let mut numbers: Vec<u64> =
+        figures.chunks_exact(8).map(|bytes| u64::from_le_bytes(bytes.try_into().expect("eight bytes"))).collect();
+    let answer = call(&mut numbers);
+    for (bytes, number) in figures.chunks_exact_mut(8).zip(numbers) {
+        bytes.copy_from_slice(&number.to_le_bytes());
+    }
+    answer
+}
+
+/// Runs a call over entries as records.
+fn over_records(entries: &mut [u64], call: impl FnOnce(&mut [Entry]) -> u64) -> u64 {
+    let mut records: Vec<Entry> =
+        entries.chunks_exact(2).map(|pair| Entry { node: pair[0], figure: pair[1] }).collect();
+    let answer = call(&mut records);
+    for (pair, record) in entries.chunks_exact_mut(2).zip(records) {
+        pair.copy_from_slice(&[record.node, record.figure]);
+    }
+    answer
+}
+
 /// Where two buffers of one length differ first, and both values there.
 fn first_difference<T: Copy + PartialEq>(mine: &[T], yours: &[T]) -> Option<(usize, T, T)> {
     (0..mine.len()).map(|place| (place, mine[place], yours[place])).find(|(_, mine, yours)| mine != yours)
@@ -214,18 +232,7 @@ fn first_difference<T: Copy + PartialEq>(mine: &[T], yours: &[T]) -> Option<(usi
 /// The buffers, long ones cut.
 impl fmt::Display for Memory {
     fn fmt(&self, f: &mut fmt::Formatter) -> fmt::Result {
-        let bytes = [
-            ("edges", &self.edges),
-            ("figures", &self.figures),
-            ("marks", &self.marks),
-            ("snapshot", &self.snapshot),
-            ("schedule", &self.schedule),
-            ("survey", &self.survey),
-            ("theirs", &self.theirs),
-            ("base", &self.base),
-            ("scratch", &self.scratch),
-        ];
-        for (name, buffer) in bytes {
+        for (name, buffer) in self.bytes() {
             write!(f, "  {name}, {} bytes:", buffer.len())?;
             for byte in buffer.iter().take(64) {
                 write!(f, " {byte:02x}")?;

@@ -1,6 +1,6 @@
 //! The pairs of which the records of a random schedule or survey are.
 
-use crate::generate::random_edges;
+use crate::boards::random_edges;
 use crate::plain::limits::MAX_DEGREE;
 use crate::plain::packing::{self, bit, pair_index};
 use crate::rng::Rng;

@@ -1,17 +1,28 @@
 //! The comparison: random histories and single damaged calls, every answer and every lent byte and number.
 
+use crate::boards::{corrupt, node_count, state};
 use crate::calls::Calls;
 use crate::damage::damage;
-use crate::generate::{call_of_kind, corrupt, next_call, node_count, state};
+use crate::generate::{call_of_kind, next_call};
 use crate::memory::{Call, Kind, Memory, KINDS};
 use crate::plain::calls::Plain;
 use crate::plain::refusal::Refusal;
 use crate::plain::{derived, paths};
 use crate::rng::Rng;
-use crate::{preview_check, schedule_check};
+use crate::{pinned_check, preview_check, schedule_check};
 
 const BY_PATHS: Plain = Plain { name: "plain (paths)", scorer: paths::score };
 const BY_FORM: Plain = Plain { name: "plain (derived form)", scorer: derived::score };
+
+/// A check of a call against other calls of the same version: the memory before it, after it, and its answer.
+type Check = fn(&dyn Calls, Call, &Memory, &Memory, u64) -> Result<(), String>;
+
+/// The checks, each with what a call stands against.
+const CHECKS: [(Check, &str); 3] = [
+    (preview_check::check, "its own edit and scores"),
+    (schedule_check::check, "its own snapshot"),
+    (pinned_check::check, "its own reconcile and first conflict"),
+];
 
 /// What a run met: how often each kind of call gave each refusal.
 #[derive(Default)]
@@ -31,12 +42,12 @@ impl Tally {
 
     /// A line for each kind of call, a column for each refusal number.
     pub fn table(&self) -> String {
-        let mut out = format!("{:<14}", "refusal");
+        let mut out = format!("{:<15}", "refusal");
         for number in 0..=Refusal::LAST {
             out += &format!("{number:>7}");
         }
         for (kind, row) in KINDS.iter().zip(&self.refusals) {
-            out += &format!("\n{:<14}", format!("{kind:?}").to_lowercase());
+            out += &format!("\n{:<15}", format!("{kind:?}").to_lowercase());
             for &times in row {
                 out += &if times == 0 { format!("{:>7}", ".") } else { format!("{times:>7}") };
             }
@@ -45,8 +56,8 @@ impl Tally {
     }
 }
 
-/// Compares one call of `version` with the plain version, a preview with the edit, and a load of a schedule with a load
-/// of its snapshot. The memory ends as the plain version leaves it.
+/// Compares one call of `version` with the plain version, and with other calls of its own. The memory ends as the plain
+/// version leaves it.
 fn compare(version: &dyn Calls, call: Call, memory: &mut Memory) -> Result<u64, String> {
     let before = memory.clone();
     let answer = memory.run(&BY_PATHS, call);
@@ -55,12 +66,11 @@ fn compare(version: &dyn Calls, call: Call, memory: &mut Memory) -> Result<u64, 
         agree(&BY_FORM, call, &before, memory, answer)?;
     }
     agree(version, call, &before, memory, answer)?;
-    preview_check::check(version, call, &before, memory, answer).map_err(|what| {
-        format!("{} against its own edit and scores, {call}\n  {what}\nbefore the call:\n{before}", version.name())
-    })?;
-    schedule_check::check(version, call, &before, memory, answer).map_err(|what| {
-        format!("{} against its own snapshot, {call}\n  {what}\nbefore the call:\n{before}", version.name())
-    })?;
+    for (check, other) in CHECKS {
+        check(version, call, &before, memory, answer).map_err(|what| {
+            format!("{} against {other}, {call}\n  {what}\nbefore the call:\n{before}", version.name())
+        })?;
+    }
     Ok(answer)
 }
 

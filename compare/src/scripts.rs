@@ -1,6 +1,6 @@
 //! The comparison of a script program with the plain one, on random scripts, whole and damaged.
 
-use crate::generate::node_count;
+use crate::boards::node_count;
 use crate::plain::packing::{bit, put_bit};
 use crate::plain::replay::replay;
 use crate::rng::Rng;

@@ -13,10 +13,13 @@ pub struct Board {
     pub bytes: Vec<u8>,
     pub figures: Vec<u64>,
     pub marks: Vec<u8>,
+    /// The snapshot of the board; its edges are the base of a reconcile.
     pub snapshot: Vec<u8>,
     pub schedule: Vec<u8>,
     pub survey: Vec<u8>,
+    pub pins: Vec<u8>,
     pub theirs: Vec<u8>,
+    pub their_pins: Vec<u8>,
     pub entries: Vec<u64>,
     pub records: Vec<Entry>,
     pub scratch: Vec<u8>,
@@ -77,7 +80,9 @@ impl Board {
             bytes: vec![0; 8 * n],
             figures: vec![0; n],
             marks: vec![0; mark_bytes(n)],
+            pins: vec![0; edge_bytes(n)],
             theirs: Vec::new(),
+            their_pins: vec![0; edge_bytes(n)],
             entries: vec![0; 16],
             records: vec![Entry::default(); 8],
             scratch: vec![0; n],
@@ -168,8 +173,17 @@ impl Board {
     }
 
     pub fn reconcile(&mut self, version: &dyn Calls) -> u64 {
-        // the base is the board itself as the snapshot holds it
         version.reconcile(&mut self.edges, &mut self.figures, &mut self.marks, &self.theirs, &self.snapshot[1..])
+    }
+
+    pub fn reconcile_pinned(&mut self, version: &dyn Calls) -> u64 {
+        let Board { edges, figures, marks, pins, theirs, their_pins, snapshot, .. } = self;
+        version.reconcile_pinned(edges, figures, marks, pins, theirs, their_pins, &snapshot[1..])
+    }
+
+    pub fn conflict(&mut self, version: &dyn Calls) -> u64 {
+        let Board { edges, n, pins, theirs, their_pins, snapshot, .. } = self;
+        version.conflict(edges, *n as u64, pins, theirs, their_pins, &snapshot[1..])
     }
 
     pub fn list(&mut self, version: &dyn Calls) -> u64 {

@@ -25,6 +25,7 @@ pub fn cases(rng: &mut Rng, board: Board) -> Vec<Case> {
     let present = present(&board, &joined);
     let absent = absent(&present);
     let merged = merged(&board, &joined);
+    let pinned = pinned(&merged, &joined);
     let settled = settled(&board);
     let edited = edited(&settled, joined[0]);
     let all = Board { entries: vec![0; 2 * n], records: vec![Entry::default(); n], ..board.clone() };
@@ -38,6 +39,8 @@ pub fn cases(rng: &mut Rng, board: Board) -> Vec<Case> {
         Case { name: "add", boards: absent, call: Board::add },
         Case { name: "remove", boards: present, call: Board::remove },
         Case { name: "reconcile 8 pairs", boards: same(&merged), call: Board::reconcile },
+        Case { name: "reconcile with pins", boards: same(&pinned), call: Board::reconcile_pinned },
+        Case { name: "first conflict", boards: same(&pinned), call: Board::conflict },
         Case { name: "list 8, all open", boards: same(&board), call: Board::list },
         Case { name: "list n, all open", boards: same(&all), call: Board::list },
         Case { name: "list 8, settled", boards: same(&settled), call: Board::list },
@@ -75,6 +78,20 @@ fn merged(board: &Board, joined: &[(usize, usize)]) -> Board {
         put_bit(&mut merged.edges, pair_index(a, b), false);
     }
     merged
+}
+
+/// That board with pins: mine confirms half of the links that both have, theirs these and its own changes, so there is no
+/// conflict.
+fn pinned(merged: &Board, joined: &[(usize, usize)]) -> Board {
+    let mut pinned = merged.clone();
+    for &(a, b) in joined[4..joined.len() - 4].iter().step_by(2) {
+        put_bit(&mut pinned.pins, pair_index(a, b), true);
+        put_bit(&mut pinned.their_pins, pair_index(a, b), true);
+    }
+    for &(a, b) in joined.iter().take(4).chain(joined.iter().rev().take(4)) {
+        put_bit(&mut pinned.their_pins, pair_index(a, b), true);
+    }
+    pinned
 }
 
 /// The board with every node worked out.

@@ -45,13 +45,22 @@ fn exchanged(mut board: Board) -> Board {
     board
 }
 
+/// The same by a reconcile with pins: mine confirms what it leaves, and theirs its changes.
+fn exchanged_with_pins(mut board: Board) -> Board {
+    board.lent.base = links(board.n, &[(0, 1)]);
+    board.lent.theirs = links(board.n, &[(2, 3)]);
+    board.lent.pins = links(board.n, &CROSSED[1..]);
+    board.lent.their_pins = links(board.n, &[(0, 1), (2, 3)]);
+    board.then(Kind::ReconcilePinned, 0, 0)
+}
+
 /// The largest figure that a buffer can hold.
 const LARGE: u64 = u64::MAX;
 
 /// A case's name, the figures and the marks byte that are due, and the board that the calls leave on a version.
 pub type Case = (&'static str, &'static [u64], u8, fn(&dyn Calls) -> Board<'_>);
 
-pub const CASES: [Case; 18] = [
+pub const CASES: [Case; 20] = [
     ("load gives the middle of a star its 3 unlinked pairs", &[3 * UNIT, 0, 0, 0], 0xF0, |version| {
         loaded(version, 4, &STAR)
     }),
@@ -120,6 +129,18 @@ pub const CASES: [Case; 18] = [
         &[0, 0, 3 * UNIT, 3 * UNIT, 2 * UNIT, LARGE],
         0xF8,
         |version| exchanged(settled(version, 6, &CROSSED, LARGE)),
+    ),
+    (
+        "the steps of a reconcile with pins do, a small figure kept",
+        &[0, 0, 3 * UNIT, 3 * UNIT, 1, 1],
+        0xF8,
+        |version| exchanged_with_pins(settled(version, 6, &CROSSED, 1)),
+    ),
+    (
+        "the steps of a reconcile with pins do, a large figure lowered",
+        &[0, 0, 3 * UNIT, 3 * UNIT, 2 * UNIT, LARGE],
+        0xF8,
+        |version| exchanged_with_pins(settled(version, 6, &CROSSED, LARGE)),
     ),
     ("01's listing works out 2 posts", &[3 * UNIT, 0, 0, 0], 0x30, |version| {
         let mut board = Board::new(version, 4);

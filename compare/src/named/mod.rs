@@ -1,11 +1,15 @@
 //! Cases by name, each on every call that has the thing tested: the description's that the proofs leave to a run,
 //! the figures of small boards, what previews show and when they are refused, the sheets that are written and when a
 //! write is refused, of timed sheets the sheets at a minute, loads at a minute, next changes, and when these are
-//! refused, and of surveys the sheets at a threshold, the records that count, and when these are refused.
+//! refused, of surveys the sheets at a threshold, the records that count, and when these are refused, and of pins the
+//! links that stand, the first conflict, and when a reconcile with pins is refused.
 
 mod figures;
 mod long_surveys;
 mod next_changes;
+mod pin_refusals;
+mod pinned_boards;
+mod pins;
 mod preview_refusals;
 mod previews;
 mod refusals;
@@ -40,7 +44,9 @@ impl<'a> Board<'a> {
             snapshot: sheet(n, &links),
             schedule: sheet(n, &[]),
             survey: Vec::new(),
+            pins: links.clone(),
             theirs: links.clone(),
+            their_pins: links.clone(),
             base: links.clone(),
             edges: links,
             entries: vec![0; 2],
@@ -201,5 +207,8 @@ pub fn run(version: &dyn Calls) -> Result<(), String> {
     next_changes::run(version)?;
     run_refused(version, "timed sheet", &schedule_refusals::CASES)?;
     surveys::run(version)?;
-    run_refused(version, "survey", &survey_refusals::CASES)
+    run_refused(version, "survey", &survey_refusals::CASES)?;
+    pins::run(version)?;
+    pinned_boards::run(version)?;
+    run_refused(version, "pins", &pin_refusals::CASES)
 }

@@ -3,7 +3,7 @@
 use super::refusal::{refuse_if, Refusal};
 use super::score::Scorer;
 use super::state::{check_node_count, State};
-use super::{clear, edit, list, preview, reconcile, schedule, score, snapshot, survey};
+use super::{clear, edit, list, pinned, preview, reconcile, schedule, score, snapshot, survey};
 use crate::calls::{Calls, Entry};
 
 /// The plain version with one of its two ways to score.
@@ -112,6 +112,23 @@ impl Calls for Plain {
 
     fn reconcile(&self, edges: &mut [u8], figures: &mut [u64], marks: &mut [u8], theirs: &[u8], base: &[u8]) -> u64 {
         number(reconcile::reconcile(State { edges, figures, marks }, theirs, base))
+    }
+
+    fn reconcile_pinned(
+        &self,
+        edges: &mut [u8],
+        figures: &mut [u64],
+        marks: &mut [u8],
+        pins: &[u8],
+        theirs: &[u8],
+        their_pins: &[u8],
+        base: &[u8],
+    ) -> u64 {
+        number(pinned::reconcile_pinned(State { edges, figures, marks }, pins, theirs, their_pins, base))
+    }
+
+    fn conflict(&self, edges: &[u8], n: u64, pins: &[u8], theirs: &[u8], their_pins: &[u8], base: &[u8]) -> u64 {
+        value(pinned::conflict(edges, n, pins, theirs, their_pins, base))
     }
 
     fn list(

@@ -11,6 +11,7 @@ pub mod limits;
 pub mod list;
 pub mod packing;
 pub mod paths;
+pub mod pinned;
 pub mod preview;
 pub mod reconcile;
 pub mod records;

@@ -1,11 +1,11 @@
 //! Why a call turns back. The numbers are the description's, in the order in which they are tested; the calls of a
-//! schedule and of a survey have an order of their own.
+//! schedule, of a survey and of pins have an order of their own.
 
 #[derive(Clone, Copy, Debug, PartialEq, Eq)]
 pub enum Refusal {
     /// n is 0 or above 256.
     NodeCount = 1,
-    /// An edges, marks, figures, changes or written-snapshot buffer has another length than n requires.
+    /// An edges, pins, marks, figures, changes or written-snapshot buffer has another length than n requires.
     BufferLength = 2,
     /// The scratch is shorter than n bytes.
     ShortScratch = 3,
@@ -32,11 +32,13 @@ pub enum Refusal {
     NoHours = 13,
     /// A survey is not a whole number of records.
     BadSurvey = 14,
+    /// Both editors have spoken on a pair and left it different.
+    Conflict = 15,
 }
 
 impl Refusal {
     /// The largest number.
-    pub const LAST: u64 = Refusal::BadSurvey as u64;
+    pub const LAST: u64 = Refusal::Conflict as u64;
 
     /// The number that a call answers with.
     pub fn number(self) -> u64 {

@@ -22,7 +22,7 @@ impl State<'_> {
     pub fn check(&self) -> Result<(), Refusal> {
         let n = self.node_count();
         check_node_count(n as u64)?;
-        refuse_if(self.edges.len() != edge_bytes(n), Refusal::BufferLength)?;
+        check_pair_bits(n, &[self.edges])?;
         refuse_if(self.marks.len() != mark_bytes(n), Refusal::BufferLength)
     }
 
@@ -59,4 +59,9 @@ impl State<'_> {
 /// Refusal 1.
 pub fn check_node_count(n: u64) -> Result<(), Refusal> {
     refuse_if(n == 0 || n > MAX_NODES as u64, Refusal::NodeCount)
+}
+
+/// Refusal 2 of buffers that hold a bit for each pair of n nodes.
+pub fn check_pair_bits(n: usize, buffers: &[&[u8]]) -> Result<(), Refusal> {
+    refuse_if(buffers.iter().any(|buffer| buffer.len() != edge_bytes(n)), Refusal::BufferLength)
 }

@@ -1,6 +1,7 @@
 //! The description's worked cases, run on the plain version with both ways to score.
 
 mod bounds;
+mod pins;
 mod previews;
 
 use super::calls::Plain;

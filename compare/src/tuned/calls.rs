@@ -1,6 +1,6 @@
 //! The tuned version behind the C functions' signatures.
 
-use super::{edit, list, merge, next_change, preview, schedule, score, snapshot, survey};
+use super::{edit, list, merge, next_change, pinned, preview, schedule, score, snapshot, survey};
 use crate::calls::{Calls, Entry};
 
 pub struct Tuned;
@@ -71,6 +71,23 @@ impl Calls for Tuned {
 
     fn reconcile(&self, edges: &mut [u8], figures: &mut [u64], marks: &mut [u8], theirs: &[u8], base: &[u8]) -> u64 {
         merge::reconcile(edges, figures, marks, theirs, base)
+    }
+
+    fn reconcile_pinned(
+        &self,
+        edges: &mut [u8],
+        figures: &mut [u64],
+        marks: &mut [u8],
+        pins: &[u8],
+        theirs: &[u8],
+        their_pins: &[u8],
+        base: &[u8],
+    ) -> u64 {
+        pinned::reconcile_pinned(edges, figures, marks, pins, theirs, their_pins, base)
+    }
+
+    fn conflict(&self, edges: &[u8], n: u64, pins: &[u8], theirs: &[u8], their_pins: &[u8], base: &[u8]) -> u64 {
+        pinned::conflict(edges, n, pins, theirs, their_pins, base).unwrap_or_else(u64::wrapping_neg)
     }
 
     fn list(

@@ -1,18 +1,32 @@
-//! Reconcile: the changed bits found 64 at a time, the edits made on rows.
+//! Reconcile: the changed bits found 64 at a time, where mine and theirs differ, the edits made on rows.
 
 use super::bound::{bound, inside};
 use super::refuse::{self, any_over, BUFFER_LENGTH, CROWDED, WOULD_CROWD};
 use super::rows::{both, count, each, flip, pair, rows, set_bit, Row};
 
-/// Eight bytes from `from`, most significant first, 0 beyond the end.
-fn word(bytes: &[u8], from: usize) -> u64 {
+/// Eight bytes from `from`, a place before the end, most significant first, 0 beyond the end.
+#[inline]
+pub fn word(bytes: &[u8], from: usize) -> u64 {
     if let Some(eight) = bytes.get(from..from + 8) {
         return u64::from_be_bytes(eight.try_into().expect("eight bytes"));
     }
-    let mut padded = [0; 8];
     let tail = &bytes[from..];
+    if let Some(&last) = bytes.last_chunk() {
+        return u64::from_be_bytes(last) << (64 - 8 * tail.len());
+    }
+    let mut padded = [0; 8];
     padded[..tail.len()].copy_from_slice(tail);
     u64::from_be_bytes(padded)
+}
+
+/// The bytes that are compared together.
+const BLOCK: usize = 64;
+
+/// The places, eight bytes apart, of the blocks in which two buffers of one length differ.
+#[inline]
+fn differing<'a>(x: &'a [u8], y: &'a [u8]) -> impl Iterator<Item = usize> + 'a {
+    let blocks = x.chunks(BLOCK).zip(y.chunks(BLOCK)).enumerate().filter(|(_, (x, y))| x != y);
+    blocks.flat_map(|(place, (x, _))| (BLOCK * place..BLOCK * place + x.len()).step_by(8))
 }
 
 /// A pair that takes theirs.
@@ -27,7 +41,7 @@ fn changes(n: usize, mine: &[u8], theirs: &[u8], base: &[u8]) -> Vec<Change> {
     let pairs = n * (n - 1) / 2;
     let mut found = Vec::new();
     let (mut b, mut start) = (1, 0);
-    for from in (0..mine.len()).step_by(8) {
+    for from in differing(mine, theirs) {
         let wanted = word(theirs, from);
         let mut left = (wanted ^ word(base, from)) & (wanted ^ word(mine, from));
         while left != 0 {
@@ -57,6 +71,12 @@ pub fn reconcile(edges: &mut [u8], figures: &mut [u64], marks: &mut [u8], theirs
     if theirs.len() != edges.len() || base.len() != edges.len() {
         return BUFFER_LENGTH;
     }
+    merge(edges, figures, marks, theirs, base)
+}
+
+/// Reconciles buffers of the lengths that n requires: refusal 11 or 12, or 0.
+pub fn merge(edges: &mut [u8], figures: &mut [u64], marks: &mut [u8], theirs: &[u8], base: &[u8]) -> u64 {
+    let n = figures.len();
     let (rows, degrees) = rows(edges, n);
     if any_over(&degrees[..n]) {
         return CROWDED;

@@ -7,6 +7,7 @@ mod edit;
 mod list;
 mod merge;
 mod next_change;
+mod pinned;
 mod preview;
 mod records;
 mod refuse;

@@ -14,6 +14,7 @@ pub const CROWDED: u64 = 11;
 pub const WOULD_CROWD: u64 = 12;
 pub const NO_HOURS: u64 = 13;
 pub const BAD_SURVEY: u64 = 14;
+pub const CONFLICT: u64 = 15;
 
 pub const LIMIT: usize = 40;
 pub const UNIT: u64 = 5_342_931_457_063_200;

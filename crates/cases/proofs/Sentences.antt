@@ -10,7 +10,7 @@ use Rattle.cases.proofs.Reflect.{always, bits, both, everywhere, lists,
 use Rattle.ego.specs.Graph.{Graph}
 use Rattle.ego.specs.Score.{score}
 use Rattle.history.specs.History.{edits, Effect, filledWith, firstK, firstOf, links, nodes, OfEdit, OfList, others, refusal, Says, Sentence, settled, settles, stale, worked}
-use Rattle.history.specs.Model.{add, asRecords, Call, clear, Entries, inRow, list, load, loadAt, model, modelRefusal, reconcile, remove, room}
+use Rattle.history.specs.Model.{add, asRecords, Call, clear, Entries, inRow, list, load, loadAt, model, modelRefusal, reconcile, reconcilePinned, remove, room}
 use Rattle.state.specs.Refusal.{touched}
 use Rattle.state.specs.State.{figure, graph, isStale, size, State}
 use Rattle.topk.specs.declared.entries.Entry.{Entry}
@@ -59,6 +59,7 @@ whereListed (loadAt schedule t) f = true
 whereListed (add a b) f = true
 whereListed (remove a b) f = true
 whereListed (reconcile theirs base) f = true
+whereListed (reconcilePinned brought) f = true
 whereListed (list entries scratch) f = f entries
 
 of-list : (call : Call) {P : Entries → Type 0} (f : Entries → Bool) → ((entries : Entries) → Reflects (P entries) (f entries))
@@ -69,6 +70,7 @@ of-list (loadAt schedule t) f r = always
 of-list (add a b) f r = always
 of-list (remove a b) f r = always
 of-list (reconcile theirs base) f r = always
+of-list (reconcilePinned brought) f r = always
 of-list (list entries scratch) f r = r entries
 
 abbrev ofEdit : Call → (ℕ → ℕ → Bool) → Bool
@@ -78,6 +80,7 @@ ofEdit (loadAt schedule t) f = true
 ofEdit (add a b) f = f a b
 ofEdit (remove a b) f = f a b
 ofEdit (reconcile theirs base) f = true
+ofEdit (reconcilePinned brought) f = true
 ofEdit (list entries scratch) f = true
 
 of-edit : (call : Call) {P : ℕ → ℕ → Type 0} (f : ℕ → ℕ → Bool) → ((a b : ℕ) → Reflects (P a b) (f a b))
@@ -88,6 +91,7 @@ of-edit (loadAt schedule t) f r = always
 of-edit (add a b) f r = r a b
 of-edit (remove a b) f r = r a b
 of-edit (reconcile theirs base) f r = always
+of-edit (reconcilePinned brought) f r = always
 of-edit (list entries scratch) f r = always
 
 -- ---- the sentences

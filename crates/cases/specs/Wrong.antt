@@ -6,10 +6,11 @@ use Prim.Native.Nat.{ℕ, _+_, _-_}
 use lib.ListN.{set}
 use Rattle.ego.specs.Graph.{Graph}
 use Rattle.ego.specs.Limits.{unit}
+use Rattle.merge.specs.Pinned.{brought}
 use Rattle.state.specs.Marks.{withMark}
 use Rattle.state.specs.State.{State, state}
 use Rattle.topk.specs.Entries.{entry}
-use Rattle.history.specs.Model.{Call, clear, load, loadAt, add, remove, list, Entries, inRow, asRecords, noPairs, model}
+use Rattle.history.specs.Model.{Call, clear, load, loadAt, add, remove, reconcilePinned, list, Entries, inRow, asRecords, noPairs, model}
 use Rattle.history.specs.History.{Effect, effect, Sentence, links, settled, stale, refusal, firstK, worked, settles, others, edits, nodes, Says}
 use Rattle.cases.specs.Cases.{runCalls, unclean}
 
@@ -87,6 +88,8 @@ wrongs =
     wrong links 3 (clear ∷ []) (add 0 1) (linked (0 ∷ [])) ∷
     -- A schedule loaded with a link that closes at the minute: posts 0 and 1 from 0 to 10, at 10.
     wrong links 2 [] (loadAt (1 ∷ 0 ∷ 1 ∷ 0 ∷ 0 ∷ 0 ∷ 10 ∷ []) 10) (linked (0x80 ∷ [])) ∷
+    -- A reconcile with pins that leaves a link which theirs has removed and nobody has confirmed.
+    wrong links 3 (clear ∷ add 0 1 ∷ []) (reconcilePinned (brought (0x00 ∷ []) (0x00 ∷ []) (0x00 ∷ []) (0x80 ∷ []))) (linked (0x80 ∷ [])) ∷
     -- A settled figure off by one grain.
     wrong settled 3 [] clear (figured 0 1) ∷
     -- An open figure one grain below the score: the path 0–1–2, where post 1 scores 1.
@@ -95,6 +98,8 @@ wrongs =
     wrong refusal 3 (clear ∷ []) (add 0 0) (answering 4) ∷
     -- Refusal 10 for 13: hours that end where they begin, of another number of posts.
     wrong refusal 3 (clear ∷ []) (loadAt (1 ∷ 0 ∷ 1 ∷ 0 ∷ 10 ∷ 0 ∷ 10 ∷ []) 10) (answering 10) ∷
+    -- Refusal 2 for 15: theirs has removed a link that mine confirms.
+    wrong refusal 3 (clear ∷ add 0 1 ∷ []) (reconcilePinned (brought (0x80 ∷ []) (0x00 ∷ []) (0x00 ∷ []) (0x80 ∷ []))) (answering 2) ∷
     -- The first two exchanged at a tie.
     wrong firstK 4 ring listOfTwo (withEntries (inRow (1 ∷ unit ∷ 0 ∷ unit ∷ []))) ∷
     wrong firstK 4 ring twoRecords (withEntries (asRecords (entry 1 unit ∷ entry 0 unit ∷ []))) ∷

@@ -5,10 +5,11 @@ use Rattle.calls.proofs.Spare.{AlikeOutcome, clear-alike, load-alike, score-ali
 use Rattle.calls.proofs.SpareZero.{clear-zero, load-zero}
 use Rattle.edits.proofs.Spare.{add-alike, add-spare, remove-alike, remove-spare}
 use Rattle.history.specs.History.{stateAfter, answer, effect, ofState, starts}
-use Rattle.history.specs.Model.{add, asRecords, Call, clear, inRow, list, load, loadAt, reconcile, remove}
-use Rattle.history.specs.Spare.{AlikeCalls, AlikeEffects, reconciling, same, SpareBits}
+use Rattle.history.specs.Model.{add, asRecords, Call, clear, inRow, list, load, loadAt, reconcile, reconcilePinned, remove}
+use Rattle.history.specs.Spare.{AlikeCalls, AlikeEffects, reconciling, reconcilingPinned, same, SpareBits}
 use Rattle.listing.proofs.Spare.{entries-alike, entries-spare}
-use Rattle.merge.proofs.Spare.{reconcile-alike, reconcile-spare}
+use Rattle.merge.proofs.PinAgree.{brought-refl}
+use Rattle.merge.proofs.Spare.{conflict-alike, pinned-alike, pinned-spare, reconcile-alike, reconcile-spare}
 use Rattle.schedule.proofs.Spare.{load-at-alike, load-at-zero}
 use Rattle.state.proofs.Spare.{same-refl}
 use Rattle.state.specs.Outcome.{Outcome}
@@ -28,6 +29,7 @@ module _ (s t : State) (h : Alike s t) where
   call-alike (add a b) = of-state (add-alike h a b)
   call-alike (remove a b) = of-state (remove-alike h a b)
   call-alike (reconcile theirs base) = of-state (reconcile-alike h (same-refl theirs) (same-refl base))
+  call-alike (reconcilePinned brought) = of-state (pinned-alike h (brought-refl (size s) brought))
   call-alike (list (inRow numbers) scratch) =
       let l = list-alike h numbers scratch in
       record { answer = l .refusal; after = l .after; recomputed = l .recomputed; entries = ap inRow (l .entries); scratch = l .scratch }
@@ -39,6 +41,7 @@ module _ (s t : State) (h : Alike s t) where
   unfolding effect
   calls-alike (same call) = call-alike call
   calls-alike (reconciling theirs base) = of-state (reconcile-alike h theirs base)
+  calls-alike (reconcilingPinned brought) = of-state (pinned-alike h brought)
 
 zeroed : (s : State) (call : Call) → starts call ≡ true → answer s call ≡ 0 → SpareZero (stateAfter s call)
 unfolding effect
@@ -48,6 +51,7 @@ zeroed s (loadAt schedule t) e z = load-at-zero s schedule t z
 zeroed s (add a b) e z = absurd (true≢false (sym e))
 zeroed s (remove a b) e z = absurd (true≢false (sym e))
 zeroed s (reconcile theirs base) e z = absurd (true≢false (sym e))
+zeroed s (reconcilePinned brought) e z = absurd (true≢false (sym e))
 zeroed s (list entries scratch) e z = absurd (true≢false (sym e))
 
 kept : (s : State) (call : Call) → starts call ≡ false → SpareKept s (stateAfter s call)
@@ -58,6 +62,7 @@ kept s (loadAt schedule t) e = absurd (true≢false e)
 kept s (add a b) e = add-spare s a b
 kept s (remove a b) e = remove-spare s a b
 kept s (reconcile theirs base) e = reconcile-spare s theirs base
+kept s (reconcilePinned brought) e = pinned-spare s brought
 kept s (list (inRow numbers) scratch) e = list-spare s numbers scratch
 kept s (list (asRecords records) scratch) e = entries-spare s records scratch
 
@@ -67,6 +72,7 @@ spare-bits = record {
   ignored = λ s t c d h a. calls-alike s t h a;
   written = λ s t buffer h. write-alike h buffer;
   scored = λ x y n p h. score-alike n p h;
+  shown = λ x y n k l d e. conflict-alike n d e;
   zeroed = zeroed;
   kept = kept;
 }

@@ -14,8 +14,12 @@ use Rattle.ego.specs.Change.{withPair}
 use Rattle.ego.specs.Graph.{Graph}
 use Rattle.history.proofs.ListStep.{list-answers, list-stays}
 use Rattle.history.specs.History.{stateAfter, answer, effect, ofState, Unaltered}
-use Rattle.history.specs.Model.{add, below, Call, clear, conditions, earlyConditions, Entries, list, load, loadAt, model, modelRefusal, ownConditions, reconcile, remove, wouldHold}
+use Rattle.history.specs.Model.{add, below, Call, clear, conditions, earlyConditions, Entries, list, load, loadAt, model, modelRefusal, ownConditions, reconcile, reconcilePinned, remove, wouldHold}
 use Rattle.merge.proofs.MergeLaws.{merged-is, reconcile-agree, reconciled-sound}
+use Rattle.merge.proofs.PinAgree.{brought-refl, pinned-agree, stands-agree}
+use Rattle.merge.proofs.PinLaws.{pinned-sound}
+use Rattle.merge.specs.Alike.{AlikeBrought}
+use Rattle.merge.specs.Pinned.{Brought, pinnedCall, pinnedConditions, reconciledPinned}
 use Rattle.merge.specs.Reconcile.{merged, reconcileCall, reconcileConditions, reconciled}
 use Rattle.packed.specs.Edges.{edge, withEdge}
 use Rattle.calls.proofs.AcceptLaws.{append-same, lengths-fit, lengths-pass, load-accepted, outcome-accepted, outcome-refusal, outcome-refused, passes}
@@ -273,6 +277,37 @@ module _ (s : State) (g : Graph) (h : Sound (size s) g s) where
     pub reconcile-sound : Sound (size s) (model (size s) g (reconcile theirs base)) (stateAfter s (reconcile theirs base))
     reconcile-sound = call-sound s fits g (reconcile theirs base) (lengths s ++ reconcileTests) (reconciled s theirs base) reconcile-is reconcile-same
         (λ z. sound-agree merged-links (reconciled-sound s theirs base (sound-agree (agree-sym links) h))) (λ d. h)
+
+  module _ (brought : Brought) where
+    abbrev pinnedTests : List Condition
+    pinnedTests = pinnedConditions (size s) (graph s) brought
+
+    pinned-is : effect s (reconcilePinned brought) ≡ ofState (outcome (lengths s ++ pinnedTests) s (reconciledPinned s brought))
+    unfolding effect pinnedCall
+    pinned-is = refl
+
+    alike : AlikeBrought (size s) brought brought
+    alike = brought-refl (size s) brought
+
+    asks-alike : refusal pinnedTests ≡ refusal (ownConditions (size s) g (reconcilePinned brought))
+    unfolding ownConditions
+    asks-alike = pinned-agree (size s) (graph s) g brought brought links alike
+
+    pinned-same : refusal (lengths s ++ pinnedTests) ≡ refusal (ownConditions (size s) g (reconcilePinned brought))
+    pinned-same = lengths-pass s pinnedTests fits ∙ asks-alike
+
+    pub pinned-answer : answer s (reconcilePinned brought) ≡ modelRefusal (size s) g (reconcilePinned brought)
+    pinned-answer = call-answer s fits g (reconcilePinned brought) (lengths s ++ pinnedTests) (reconciledPinned s brought) pinned-is pinned-same
+
+    pinned-took : refusal (ownConditions (size s) g (reconcilePinned brought)) ≡ 0
+        → Sound (size s) (wouldHold g (reconcilePinned brought)) (reconciledPinned s brought)
+    unfolding wouldHold
+    pinned-took z =
+        sound-agree (stands-agree (size s) (graph s) g brought brought links alike)
+        (pinned-sound s brought (asks-alike ∙ z) (sound-agree (agree-sym links) h))
+
+    pub pinned-stays : Sound (size s) (model (size s) g (reconcilePinned brought)) (stateAfter s (reconcilePinned brought))
+    pinned-stays = call-sound s fits g (reconcilePinned brought) (lengths s ++ pinnedTests) (reconciledPinned s brought) pinned-is pinned-same pinned-took (λ d. h)
 
   module _ (entries : Entries) (scratch : List ℕ) where
     pub list-answer : answer s (list entries scratch) ≡ modelRefusal (size s) g (list entries scratch)

@@ -5,9 +5,9 @@ use mathlib.Core.Path.{subst, sym, _∙_, _≡_}
 use Prim.Native.Nat.{ℕ}
 use Rattle.ego.specs.Graph.{Graph}
 use Rattle.history.proofs.ListStep.{list-first, list-others, list-settles, list-worked}
-use Rattle.history.proofs.Steps.{add-answer, add-sound, add-untouched, clear-answer, clear-fits, clear-sound, list-answer, list-sound, load-answer, load-at-answer, load-at-fits, load-at-sound, load-fits, load-sound, reconcile-answer, reconcile-sound, remove-answer, remove-sound, remove-untouched}
+use Rattle.history.proofs.Steps.{add-answer, add-sound, add-untouched, clear-answer, clear-fits, clear-sound, list-answer, list-sound, load-answer, load-at-answer, load-at-fits, load-at-sound, load-fits, load-sound, pinned-answer, pinned-stays, reconcile-answer, reconcile-sound, remove-answer, remove-sound, remove-untouched}
 use Rattle.history.specs.History.{stateAfter, answer, Demand3, edits, effect, firstK, links, nodes, others, Promise, Promises, refusal, Says, Sentence, settled, settles, stale, starts, worked}
-use Rattle.history.specs.Model.{add, Call, clear, list, load, loadAt, model, modelRefusal, noPairs, reconcile, remove}
+use Rattle.history.specs.Model.{add, Call, clear, list, load, loadAt, model, modelRefusal, noPairs, reconcile, reconcilePinned, remove}
 use Rattle.edits.proofs.Sound.{Sound, sound-above, sound-settled}
 use Rattle.state.specs.State.{size, State}
 
@@ -47,6 +47,9 @@ step s g (remove a b) h = let i = remove-sound s g h a b in (i, promise s g (rem
 step s g (reconcile theirs base) h =
     let i = reconcile-sound s g h theirs base in
     (i, promise s g (reconcile theirs base) i (reconcile-answer s g h theirs base) tt tt tt tt tt)
+step s g (reconcilePinned brought) h =
+    let i = pinned-stays s g h brought in
+    (i, promise s g (reconcilePinned brought) i (pinned-answer s g h brought) tt tt tt tt tt)
 step s g (list entries scratch) h =
     let i = list-sound s g h entries scratch in (
       i,
@@ -73,6 +76,7 @@ begin s (loadAt schedule t) e z =
 begin s (add a b) e z = absurd (true≢false (sym e))
 begin s (remove a b) e z = absurd (true≢false (sym e))
 begin s (reconcile theirs base) e z = absurd (true≢false (sym e))
+begin s (reconcilePinned brought) e z = absurd (true≢false (sym e))
 begin s (list entries scratch) e z = absurd (true≢false (sym e))
 
 -- every call after it; a sound state has n nodes

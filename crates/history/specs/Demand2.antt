@@ -1,9 +1,9 @@
--- Demand 2: each score is exactly the ego-betweenness, and a reconcile gives each pair what the editor who changed it left.
+-- Demand 2: each score is exactly the ego-betweenness, and a reconcile gives each pair what the editor left who changed it, or with pins has spoken on it.
 -- The shortest paths are those of the relation `Shortest`: no list of walks, no distance and no division is read here. Assumes nothing.
 use mathlib.Core.Path.{_≡_}
-use mathlib.Core.Bool.{Bool}
+use mathlib.Core.Bool.{Bool, true}
 use mathlib.Core.List.{List, map, List·Memᴰ}
-use mathlib.Core.Logic.{_↔_, _≢_}
+use mathlib.Core.Logic.{_↔_, _⊎_, _≢_}
 use Prim.Native.Nat.{ℕ, _*_, _<_}
 use lib.ListN.{length}
 use Rattle.arith.specs.Lists.{count, Distinct, pairs, sum}
@@ -12,6 +12,7 @@ use Rattle.ego.specs.Limits.{unit}
 use Rattle.ego.specs.Graph.{Graph, neighbours, ego, inner, Shortest}
 use Rattle.state.specs.State.{State, size, graph}
 use Rattle.calls.specs.Score.{scoreCall}
+use Rattle.merge.specs.Pinned.{Brought, pinnedCall}
 use Rattle.merge.specs.Reconcile.{reconcileCall}
 
 -- All shortest paths from u to v inside the neighbourhood of p, each once; there is one at least.
@@ -38,6 +39,16 @@ pub record Reconciled (mine theirs original after : Bool) : Type 0 where
   pub theyChanged : theirs ≢ original → after ≡ theirs
   pub nobodyChanged : mine ≡ original → theirs ≡ original → after ≡ original
 
+-- An editor has spoken on a pair by confirming it or by leaving it other than the original (02).
+abbrev pub Spoken : Bool → Bool → Bool → Type 0
+Spoken pinned left original = (pinned ≡ true) ⊎ (left ≢ original)
+
+-- The state of a pair where it may be confirmed: where one has spoken, that state stands; where both have and they agree, so does theirs; else the original's.
+pub record Upheld (myPin theirPin mine theirs original after : Bool) : Type 0 where
+  pub iSpoke : Spoken myPin mine original → after ≡ mine
+  pub theySpoke : Spoken theirPin theirs original → after ≡ theirs
+  pub nobodySpoke : (Spoken myPin mine original → ⊥) → (Spoken theirPin theirs original → ⊥) → after ≡ original
+
 -- DEMAND 2. proofs/Demand2 has its proof.
 pub record Demand2 : Type 0 where
   -- An accepted score call answers exactly the ego-betweenness, by counted shortest paths in the node's own neighbourhood.
@@ -45,3 +56,6 @@ pub record Demand2 : Type 0 where
   -- An accepted reconcile gives each pair the state left by the editor who changed it, else the common original's.
   pub merges : (s : State) (theirs base : List ℕ) → reconcileCall s theirs base .refusal ≡ 0 → (a b : ℕ) → a < size s → b < size s
       → Reconciled (graph s a b) (edge theirs a b) (edge base a b) (graph (reconcileCall s theirs base .after) a b)
+  -- An accepted reconcile with pins gives each pair the state left by the editor who has spoken on it, else the common original's.
+  pub upholds : (s : State) (k : Brought) → pinnedCall s k .refusal ≡ 0 → (a b : ℕ) → a < size s → b < size s
+      → Upheld (edge (k .pins) a b) (edge (k .theirPins) a b) (graph s a b) (edge (k .theirs) a b) (edge (k .base) a b) (graph (pinnedCall s k .after) a b)

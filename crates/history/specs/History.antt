@@ -13,6 +13,7 @@ use Rattle.state.specs.Refusal.{touched}
 use Rattle.calls.specs.Clear.{clearCall}
 use Rattle.calls.specs.Snapshot.{loadCall}
 use Rattle.edits.specs.Edit.{addCall, removeCall}
+use Rattle.merge.specs.Pinned.{pinnedCall}
 use Rattle.merge.specs.Reconcile.{reconcileCall}
 use Rattle.schedule.specs.Sheet.{loadAtCall}
 use Rattle.topk.specs.Entries.{over}
@@ -20,7 +21,7 @@ use Rattle.topk.specs.declared.entries.Entry.{Entry}
 use Rattle.topk.specs.List.{Listed, listCall}
 use Rattle.listing.specs.Records.{entriesCall}
 use Rattle.topk.specs.Ranking.{ranking, worksOut}
-use Rattle.history.specs.Model.{Call, clear, load, loadAt, add, remove, reconcile, list, Entries, inRow, asRecords, room, noPairs, model, modelRefusal}
+use Rattle.history.specs.Model.{Call, clear, load, loadAt, add, remove, reconcile, reconcilePinned, list, Entries, inRow, asRecords, room, noPairs, model, modelRefusal}
 
 -- What a call leaves: the refusal number that it answers, and the state; of a list also the worked count, the entries and the scratch.
 pub record Effect : Type 0 where
@@ -44,6 +45,7 @@ effect s (loadAt schedule t) = ofState (loadAtCall s schedule t)
 effect s (add a b) = ofState (addCall s a b)
 effect s (remove a b) = ofState (removeCall s a b)
 effect s (reconcile theirs base) = ofState (reconcileCall s theirs base)
+effect s (reconcilePinned brought) = ofState (pinnedCall s brought)
 effect s (list (inRow numbers) scratch) = ofList inRow (listCall s numbers scratch)
 effect s (list (asRecords records) scratch) = ofList asRecords (entriesCall s records scratch)
 
@@ -72,6 +74,7 @@ OfList (loadAt schedule t) P = Unit {0}
 OfList (add a b) P = Unit {0}
 OfList (remove a b) P = Unit {0}
 OfList (reconcile theirs base) P = Unit {0}
+OfList (reconcilePinned brought) P = Unit {0}
 OfList (list entries scratch) P = P entries
 
 -- what is said of an add or a removal alone, by its two ends
@@ -82,6 +85,7 @@ OfEdit (loadAt schedule t) P = Unit {0}
 OfEdit (add a b) P = P a b
 OfEdit (remove a b) P = P a b
 OfEdit (reconcile theirs base) P = Unit {0}
+OfEdit (reconcilePinned brought) P = Unit {0}
 OfEdit (list entries scratch) P = Unit {0}
 
 -- the node's figure and mark are as they were
@@ -136,6 +140,7 @@ starts (loadAt schedule t) = true
 starts (add a b) = false
 starts (remove a b) = false
 starts (reconcile theirs base) = false
+starts (reconcilePinned brought) = false
 starts (list entries scratch) = false
 
 -- DEMAND 3. The model is fed n once: the count of the figures that the first call is lent. proofs/Theorem has its proof.

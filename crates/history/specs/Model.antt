@@ -6,6 +6,7 @@ use lib.Dec.{eqb, ltb}
 use lib.ListN.{length}
 use Rattle.ego.specs.Change.{withPair}
 use Rattle.ego.specs.Graph.{Graph}
+use Rattle.merge.specs.Pinned.{Brought, pinnedConditions, stands}
 use Rattle.merge.specs.Reconcile.{reconcileConditions}
 use Rattle.packed.specs.Bits.{differ}
 use Rattle.packed.specs.Edges.{edge}
@@ -27,7 +28,7 @@ abbrev pub room : Entries → ℕ
 room (inRow numbers) = wanted numbers
 room (asRecords records) = length records
 
--- What a call brings besides the state: numbers, a sheet, a schedule and a minute, theirs and the original, entries and scratch.
+-- What a call brings besides the state: numbers, a sheet, a schedule and a minute, theirs and the original, with pins too, entries and scratch.
 pub data Call : Type 0 where
   clear : Call
   load : List ℕ → Call
@@ -35,6 +36,7 @@ pub data Call : Type 0 where
   add : ℕ → ℕ → Call
   remove : ℕ → ℕ → Call
   reconcile : List ℕ → List ℕ → Call
+  reconcilePinned : Brought → Call
   list : Entries → List ℕ → Call
 
 -- The model holds a set of pairs, at first none.
@@ -43,7 +45,8 @@ noPairs a b = false
 
 -- The pairs that it would hold after the call. Clear empties it. Load makes it the sheet's pairs; of a schedule, those that exist at the minute (02).
 -- Add puts its pair in. Remove takes its pair out.
--- Reconcile: a pair where theirs differs from the original becomes as in theirs; every other pair stays. List leaves it.
+-- Reconcile: a pair where theirs differs from the original becomes as in theirs; every other pair stays. With pins (02) it becomes as it stands, mine being
+-- the model's pairs. List leaves it.
 unfoldable pub wouldHold : Graph → Call → Graph
 wouldHold g clear = noPairs
 wouldHold g (load snapshot) = edge (snapshotEdges snapshot)
@@ -51,6 +54,7 @@ wouldHold g (loadAt schedule t) = linkedAt schedule t
 wouldHold g (add a b) = withPair g a b true
 wouldHold g (remove a b) = withPair g a b false
 wouldHold g (reconcile theirs base) = λ a b. cond (differ (edge theirs a b) (edge base a b)) (edge theirs a b) (g a b)
+wouldHold g (reconcilePinned brought) = stands g brought
 wouldHold g (list entries scratch) = g
 
 -- The conditions of turning back, with the model's pairs as the links (for 12, the pairs it would then hold).
@@ -61,6 +65,7 @@ ownConditions n g (loadAt schedule t) = loadAtConditions n schedule t
 ownConditions n g (add a b) = addConditions n g (wouldHold g (add a b)) a b
 ownConditions n g (remove a b) = removeConditions n g a b
 ownConditions n g (reconcile theirs base) = reconcileConditions n g (wouldHold g (reconcile theirs base)) theirs base
+ownConditions n g (reconcilePinned brought) = pinnedConditions n g brought
 ownConditions n g (list entries scratch) = listConditions n g (room entries) (length scratch)
 
 -- 9 of a schedule is tested before 1.
@@ -71,6 +76,7 @@ earlyConditions (loadAt schedule t) = badSchedule schedule ∷ []
 earlyConditions (add a b) = []
 earlyConditions (remove a b) = []
 earlyConditions (reconcile theirs base) = []
+earlyConditions (reconcilePinned brought) = []
 earlyConditions (list entries scratch) = []
 
 -- 1 stands before all the others. 2 stands among them for the buffers that a call brings; for the state's own it cannot apply, and the model does not

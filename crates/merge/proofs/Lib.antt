@@ -1,7 +1,15 @@
 pub mod AfterLaws
 pub mod BitOrder
+pub mod ConflictCall
+pub mod ConflictLaws
+pub mod FirstConflict
+pub mod KeptOnPurpose
+pub mod LengthLaws
 pub mod MergeLaws
+pub mod Overruled
 pub mod PairOrder
+pub mod PinAgree
+pub mod PinLaws
 pub mod Single
 pub mod Spare
 pub mod StepLaws

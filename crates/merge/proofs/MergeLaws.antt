@@ -59,7 +59,7 @@ taken false true false = refl
 taken false false m = refl
 
 -- the editor who changed the pair decides, otherwise the original stands
-decides : (t o m : Bool) → cond (differ t o) t m ≡ cond (differ t o) t (cond (differ m o) m o)
+pub decides : (t o m : Bool) → cond (differ t o) t m ≡ cond (differ t o) t (cond (differ m o) m o)
 decides t true true = refl
 decides t true false = refl
 decides t false true = refl

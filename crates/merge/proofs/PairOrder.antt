@@ -112,3 +112,16 @@ module _ (new old : Graph) (fresh : Simple new) (past : Simple old) where
 
       pub over-same : (s : A) → P old s → overPairs other n s ≡ overPairs change n s
       over-same s p = rows-same n s (le-refl n) p
+
+-- what two changes keep at each pair a < b < n they keep over all these pairs
+module _ {A : Type 0} (n : ℕ) (R : A → A → Type 0) (f g : ℕ → ℕ → A → A)
+    (keeps : (a b : ℕ) → a < b → b < n → (s t : A) → R s t → R (f a b s) (g a b t)) where
+  row-both : (a b : ℕ) (s t : A) → a ≤ b → b < n → R s t → R (overRow f b a s) (overRow g b a t)
+  unfolding overRow
+  row-both zero b s t h l r = r
+  row-both (suc a) b s t h l r = keeps a b h l _ _ (row-both a b s t (omega arith) l r)
+
+  pub rows-both : (b : ℕ) (s t : A) → b ≤ n → R s t → R (overPairs f b s) (overPairs g b t)
+  unfolding overPairs
+  rows-both zero s t h r = r
+  rows-both (suc b) s t h r = row-both b b _ _ (le-refl b) h (rows-both b s t (omega arith) r)

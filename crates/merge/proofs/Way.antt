@@ -25,7 +25,7 @@ use Rattle.merge.proofs.PairOrder.{halfway}
 use Rattle.merge.specs.Reconcile.{merged, overPairs, overRow, reconcileCall, reconciled, removing, takes}
 use Rattle.merge.specs.inside.Steps.{cap, mergeConditions, Ready, stepped}
 
-or-none : (x : Bool) → (x || false) ≡ true → x ≡ true
+pub or-none : (x : Bool) → (x || false) ≡ true → x ≡ true
 or-none true e = refl
 or-none false e = e
 
@@ -87,7 +87,7 @@ module _ (s : State) (theirs base : List ℕ) where
   -- ---- what an accepted reconcile knows: its lengths fit, and by 11 and 12 neither mine nor the merged graph has a node with too many edges
 
   module _ (z : refusal (mergeConditions (size s) (s .edges) theirs base) ≡ 0) where
-    pub reconcile-accepted : (length theirs ≡ edgeBytes (size s)) × (length base ≡ edgeBytes (size s))
+    reconcile-accepted : (length theirs ≡ edgeBytes (size s)) × (length base ≡ edgeBytes (size s))
         × ((on : Bool) → tooMany (cover (graph s) (edge theirs) (edge base) on) (size s) everyone ≡ false)
     unfolding bufferLength crowdedBefore crowdedAfter
     reconcile-accepted =
@@ -104,7 +104,7 @@ module _ (s : State) (theirs base : List ℕ) where
         )
 
     -- what the loops need at the state before the removals, and before the additions
-    pub ready-way : Fitted (size s) (length (s .edges)) (length (s .marks)) → (on : Bool) {t : State}
+    ready-way : Fitted (size s) (length (s .edges)) (length (s .marks)) → (on : Bool) {t : State}
         → t ≡ wayStart on → Ready on theirs base t
     ready-way f on e =
         let w = way-start-shows f on in
@@ -124,8 +124,13 @@ module _ (s : State) (theirs base : List ℕ) where
     unfolding reconcileCall
     fits = lengths-fit s _ (sym (outcome-refusal _ s (reconciled s theirs base)) ∙ z)
 
+    tested : refusal (mergeConditions (size s) (s .edges) theirs base) ≡ 0
+    unfolding reconcileCall
+    tested = sym (lengths-pass s _ fits) ∙ sym (outcome-refusal _ s (reconciled s theirs base)) ∙ z
+
+    pub ready : (on : Bool) {t : State} → t ≡ wayStart on → Ready on theirs base t
+    ready on e = ready-way tested fits on e
+
     -- SO ON THE WAY no node has too many edges
     pub on-the-way : (on : Bool) (a b : ℕ) → a ≤ b → b < size s → (which : ℕ → Bool) → tooMany (graph (wayState on b a)) (size s) which ≡ false
-    unfolding reconcileCall
-    on-the-way on a b h l which =
-        way-few fits on a b h l which (reconcile-accepted (sym (lengths-pass s _ fits) ∙ sym (outcome-refusal _ s (reconciled s theirs base)) ∙ z) .2 on)
+    on-the-way on a b h l which = way-few fits on a b h l which (reconcile-accepted tested .2 on)

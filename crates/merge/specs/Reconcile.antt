@@ -35,10 +35,11 @@ abbrev pub adding : Graph → Graph → Graph → ℕ → ℕ → State → Stat
 adding mine theirs base a b s = cond (takes mine theirs base a b && theirs a b) (added s a b) s
 
 -- The state ends as after those removals in bit order, then those additions in bit order.
+abbrev pub merging : State → Graph → Graph → State
+merging s theirs base = overPairs (adding (graph s) theirs base) (size s) (overPairs (removing (graph s) theirs base) (size s) s)
+
 unfoldable pub reconciled : State → List ℕ → List ℕ → State
-reconciled s theirs base =
-    overPairs (adding (graph s) (edge theirs) (edge base)) (size s)
-    (overPairs (removing (graph s) (edge theirs) (edge base)) (size s) s)
+reconciled s theirs base = merging s (edge theirs) (edge base)
 
 -- g is the graph before the call, and g′ the graph after it
 abbrev pub reconcileConditions : ℕ → Graph → Graph → List ℕ → List ℕ → List Condition

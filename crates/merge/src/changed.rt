@@ -13,7 +13,7 @@ pub struct Pair {
 }
 
 // The pair whose bit is i, which is not before the row of b.
-fn pair_at(i: usize, b: usize) -> Pair
+pub(crate) fn pair_at(i: usize, b: usize) -> Pair
     requires { ⌜ (pairCount b ≤ i) × (i < pairCount maxNodes) × (b ≤ maxNodes) ⌝ }
     ensures { λ r. ⌜ PairAt i b r ⌝ }
 {

@@ -1,37 +1,35 @@
 // The call that brings another editor's changes into the state.
+use crate::lengths::two_refusal;
 use crate::merged::corrected;
-use crate::taken::take_all;
+use crate::taken::take_theirs;
 use packed::degrees::degrees_of;
+use packed::edges::MAX_NODES;
 use state::crowded::any_among;
 use state::refusal::CROWDED_AFTER;
 use state::refusal::CROWDED_BEFORE;
-use state::refusal::LENGTH;
-use state::sizes::edge_bytes;
 use state::sizes::state_refusal;
+ghost use mathlib.Core.List.{[], _∷_};
 ghost use mathlib.Core.Path.{_≡_};
+ghost use Rattle.packed.specs.Edges.{edge};
+ghost use Rattle.packed.specs.inside.Degrees.{degreesOf};
 ghost use Rattle.packed.specs.inside.Room.{Room};
-ghost use Rattle.state.specs.Refusal.{refusal};
+ghost use Rattle.state.specs.Refusal.{crowdedAfter, everyone, refusal};
 ghost use Rattle.state.specs.Outcome.{left};
 ghost use Rattle.state.specs.Lent.{atEntry, atExit};
-ghost use Rattle.merge.specs.Reconcile.{reconcileCall};
+ghost use Rattle.merge.specs.Reconcile.{merged, reconcileCall};
 ghost use Rattle.merge.specs.inside.Steps.{mergeConditions};
 
-// The refusals of a reconcile after those of the state's lengths.
-fn reconcile_refusal(edges: &[u8], theirs: &[u8], base: &[u8], n: usize) -> u64
-    requires { ⌜ Room n (now edges) ⌝ }
-    ensures { λ r. ⌜ r ≡ refusal (mergeConditions n (now (edges .entry)) (now (theirs .entry)) (now (base .entry))) ⌝ }
+// Refusal 12 of a reconcile, from the degrees before it.
+pub(crate) fn after_refusal(
+    edges: &[u8],
+    theirs: &[u8],
+    base: &[u8],
+    n: usize,
+    degrees: [u16; MAX_NODES],
+) -> u64
+    requires { ⌜ Room n (now edges) × Room n (now theirs) × Room n (now base) × (degrees ≡ degreesOf (now edges) n) ⌝ }
+    ensures { λ r. ⌜ r ≡ refusal (crowdedAfter (merged (edge (now (edges .entry))) (edge (now (theirs .entry))) (edge (now (base .entry)))) n everyone ∷ []) ⌝ }
 {
-    let bytes = edge_bytes(n);
-    if theirs.len() != bytes {
-        return LENGTH;
-    }
-    if base.len() != bytes {
-        return LENGTH;
-    }
-    let degrees = degrees_of(edges, n);
-    if any_among(&degrees[..], n) {
-        return CROWDED_BEFORE;
-    }
     let after = corrected(edges, theirs, base, n, degrees);
     if any_among(&after[..], n) {
         return CROWDED_AFTER;
@@ -39,7 +37,23 @@ fn reconcile_refusal(edges: &[u8], theirs: &[u8], base: &[u8], n: usize) -> u64
     0
 }
 
-// The pairs where theirs differs from the original and from mine take theirs: first the removals, then the additions.
+// The refusals of a reconcile after those of the state's lengths.
+fn reconcile_refusal(edges: &[u8], theirs: &[u8], base: &[u8], n: usize) -> u64
+    requires { ⌜ Room n (now edges) ⌝ }
+    ensures { λ r. ⌜ r ≡ refusal (mergeConditions n (now (edges .entry)) (now (theirs .entry)) (now (base .entry))) ⌝ }
+{
+    let brought = two_refusal(n, theirs.len(), base.len());
+    if brought != 0 {
+        return brought;
+    }
+    let degrees = degrees_of(edges, n);
+    if any_among(&degrees[..], n) {
+        return CROWDED_BEFORE;
+    }
+    after_refusal(edges, theirs, base, n, degrees)
+}
+
+// The pairs where theirs differs from the original and from mine take theirs.
 pub fn reconcile(
     edges: &mut [u8],
     figures: &mut [u64],
@@ -58,7 +72,6 @@ pub fn reconcile(
     if refusal != 0 {
         return refusal;
     }
-    take_all(edges, figures, marks, theirs, base, false);
-    take_all(edges, figures, marks, theirs, base, true);
+    take_theirs(edges, figures, marks, theirs, base);
     0
 }

@@ -1,4 +1,4 @@
-// The pairs that take theirs, in bit order: the additions where `on`, the removals elsewhere.
+// The pairs that take theirs.
 use crate::changed::next_pair;
 use crate::merged::takes;
 use edits::edit::edit_step;
@@ -7,6 +7,7 @@ ghost use mathlib.Core.Path.{_≡_};
 ghost use Prim.Native.Nat.{_<_};
 ghost use lib.ListN.{length};
 ghost use Rattle.packed.specs.Edges.{edge};
+ghost use Rattle.merge.specs.Reconcile.{reconcileCall, reconciled};
 ghost use Rattle.merge.specs.inside.Steps.{Ready, stepped, allStepped};
 ghost use Rattle.state.specs.Lent.{atEntry, atExit, lent};
 
@@ -32,7 +33,7 @@ fn take(
     }
 }
 
-// The same at every pair.
+// The same at every pair, in bit order.
 pub(crate) fn take_all(
     edges: &mut [u8],
     figures: &mut [u64],
@@ -57,4 +58,19 @@ pub(crate) fn take_all(
         take(edges, figures, marks, theirs, base, a, b, on);
         a += 1;
     }
+}
+
+// The removals, then the additions.
+pub(crate) fn take_theirs(
+    edges: &mut [u8],
+    figures: &mut [u64],
+    marks: &mut [u8],
+    theirs: &[u8],
+    base: &[u8],
+)
+    requires { ⌜ reconcileCall (lent edges figures marks) (now theirs) (now base) .refusal ≡ 0 ⌝ }
+    ensures { λ _. ⌜ atExit edges figures marks ≡ reconciled (atEntry edges figures marks) (now (theirs .entry)) (now (base .entry)) ⌝ }
+{
+    take_all(edges, figures, marks, theirs, base, false);
+    take_all(edges, figures, marks, theirs, base, true);
 }

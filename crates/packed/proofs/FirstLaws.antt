@@ -8,6 +8,7 @@ use Prim.Native.Nat.{_%_, _*_, _+_, _-_, _/_, _<_, _^_, suc, zero, zero-le, ℕ,
 use native.Mathlib.Decide.{decLt}
 use native.Mathlib.Nat.{le-refl, lt-of-lt-of-le, mod-eq-of-lt, mod-lt, mul-add-mod-self-right, one-mul, pow-suc, zero-lt-suc}
 use native.Mathlib.Omega.{arith}
+use borrow.Author.Tests.{eq-eqb, eqb-true, ne-eqb, not-false}
 use lib.Bits.{and-mask, bitAnd, bitXor, xor-shr, xor-step}
 use lib.Bits as Lib
 use lib.Count.{leading-le, leading-of-zero, leading-top, leadingZeros}
@@ -20,7 +21,7 @@ use Rattle.arith.specs.Digits.{bitOf, digit}
 use Rattle.arith.specs.Lists.{leastFrom}
 use Rattle.packed.proofs.RunLaws.{run-at, run-bit, run-cat, run-lt, shifted-one}
 use Rattle.packed.specs.Bits.{bitAt, differ, runOf, wordOf}
-use Rattle.packed.specs.inside.Search.{FirstFrom}
+use Rattle.packed.specs.inside.Search.{FirstFrom, otherWord, WordHas}
 
 -- ---- `FirstFrom` fixes one number
 
@@ -216,11 +217,7 @@ bit-xor a b k =
 
 -- ---- in packed bytes
 
--- a word has the 64 bits of a test from byte k on
-abbrev pub WordHas : (ℕ → Bool) → ℕ → ℕ → Type 0
-WordHas test k word = (j : ℕ) → j < 64 → test (8 * k + j) ≡ bitOf word (63 - j)
-
-word-has-bits : (xs : List ℕ) (k : ℕ) {w : ℕ} → w ≡ runOf xs (8 * k) 64 → WordHas (bitAt xs) k w
+pub word-has-bits : (xs : List ℕ) (k : ℕ) {w : ℕ} → w ≡ runOf xs (8 * k) 64 → WordHas (bitAt xs) k w
 word-has-bits xs k e j h = sym (ap (λ x. bitOf x (63 - j)) e ∙ run-bit (bitAt xs) (8 * k) 64 j h)
 
 pub word-has-differing : (xs ys : List ℕ) (k : ℕ) {u v : ℕ} → u ≡ runOf xs (8 * k) 64 → v ≡ runOf ys (8 * k) 64
@@ -243,6 +240,51 @@ passed-all {from = from} {to} {i} p h = record {
   none = λ k a b. p .none k a (omega arith);
   some = λ l. absurd (omega arith);
 }
+
+pub passed-found : {test : ℕ → Bool} {from to i : ℕ} → Passed test from to i → i < to → test i ≡ true → FirstFrom test from to i
+passed-found p l e = record { start = p .start; stop = p .stop; none = p .none; some = λ _. e }
+
+-- none of the next ones passes the test either
+pub passed-over : {test : ℕ → Bool} {from to i : ℕ} (j : ℕ) → Passed test from to i → i ≤ j → j ≤ to → ((k : ℕ) → i ≤ k → k < j → test k ≡ false)
+    → Passed test from to j
+passed-over {i = i} j p h l none = record {
+  start = omega (arith, p .start);
+  stop = l;
+  none = λ k a b. elim (decLt k i) [ yes m ↦ p .none k a m | no m ↦ none k (omega arith) b ];
+}
+
+pub passed-next : {test : ℕ → Bool} {from to i : ℕ} → Passed test from to i → i < to → test i ≡ false → Passed test from to (i + 1)
+passed-next {i = i} p l e = passed-over (i + 1) p (omega arith) (omega arith) (λ k a b. let q : k ≡ i = omega arith in rw q e)
+
+-- a word of two buffers, from their own
+module _ (x y : List ℕ) (from m : ℕ) {u v : ℕ} (e : u ≡ runOf x (8 * (from + 8 * m)) 64) (f : v ≡ runOf y (8 * (from + 8 * m)) 64) where
+  pub word-is-other : (u ≡ v → ⊥) → otherWord x y from m ≡ true
+  unfolding otherWord
+  word-is-other d = rw (← e, ← f, ne-eqb u v d) refl
+
+  pub word-is-same : u ≡ v → otherWord x y from m ≡ false
+  unfolding otherWord
+  word-is-same q = rw (← e, ← f, eq-eqb u v q) refl
+
+-- words that are the same have the same bits
+pub same-bits : (x y : List ℕ) (from : ℕ) {count r : ℕ} → FirstFrom (otherWord x y from) 0 count r
+    → (i : ℕ) → 8 * from ≤ i → i < 8 * (from + 8 * r) → bitAt x i ≡ bitAt y i
+unfolding otherWord
+same-bits x y from {r = r} f i h l =
+    let m : ℕ = (i - 8 * from) / 64 in
+    let j : ℕ = (i - 8 * from) % 64 in
+    let k : ℕ = from + 8 * m in
+    let at : i ≡ 8 * k + j = omega arith in
+    let same = eqb-true (runOf x (8 * k) 64) (runOf y (8 * k) 64) (not-false _ (f .none m zero-le (omega arith))) in
+    let in-word : j < 64 = omega arith in
+    ap (bitAt x) at ∙ word-has-bits x k refl j in-word ∙ sym (ap (bitAt y) at ∙ word-has-bits y k same j in-word)
+
+pub differ-same : {a b : Bool} → a ≡ b → differ a b ≡ false
+differ-same {a} {b} e = rw e (self b)
+  where
+    self : (b : Bool) → differ b b ≡ false
+    self true = refl
+    self false = refl
 
 -- the walk's turn, by what was found in the word from i's byte on
 module _ (word : ℕ) {test : ℕ → Bool} {from to i found : ℕ} (p : Passed test from to i) (holds : WordHas test (i / 8) word)

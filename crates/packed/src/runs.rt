@@ -50,15 +50,23 @@ fn last_at(bits: &[u8], k: usize) -> u64
     word
 }
 
+// The 64 bits from byte k on, which are all there.
+pub(crate) fn whole_at(bits: &[u8], k: usize) -> u64
+    requires { ⌜ k + 8 ≤ length (now bits) ⌝ }
+    ensures { λ r. ⌜ r ≡ runOf (now (bits .entry)) (8 * k) 64 ⌝ }
+{
+    quad_at(bits, k) << 32 | quad_at(bits, k + 4)
+}
+
 // The 64 bits from byte k on, and zeros past the end.
-pub(crate) fn word_at(bits: &[u8], k: usize) -> u64
+pub fn word_at(bits: &[u8], k: usize) -> u64
     requires { ⌜ k ≤ length (now bits) ⌝ }
     ensures { λ r. ⌜ r ≡ runOf (now (bits .entry)) (8 * k) 64 ⌝ }
 {
     if bits.len() - k < 8 {
         return last_at(bits, k);
     }
-    quad_at(bits, k) << 32 | quad_at(bits, k + 4)
+    whole_at(bits, k)
 }
 
 // The `count` bits of a run that are before its last `after`: so a field of a packed record, whose bits are a run.

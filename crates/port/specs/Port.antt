@@ -1,8 +1,11 @@
--- What the port answers as one number: of a list, with everything lent, of the next change, and of the record that counts. Assumes nothing.
-use mathlib.Core.Bool.{cond}
+-- What the port answers as one number: of a list, with everything lent, of the next change, of the record that counts, and of the first conflict. Assumes nothing.
+use mathlib.Core.Bool.{cond, true}
 use mathlib.Core.List.{List}
-use Prim.Native.Nat.{ℕ, _^_}
+use mathlib.Core.Path.{_≡_}
+use Prim.Native.Nat.{ℕ, _^_, _<_}
 use denote.Ref.{now}
+use Rattle.merge.specs.Conflict.{Answer as Conflicting}
+use Rattle.packed.specs.Pairs.{maxNodes, pairIndex}
 use Rattle.state.specs.Lent.{atEntry, atExit, Moments}
 use Rattle.state.specs.Refusal.{oneNumber}
 use Rattle.state.specs.State.{State}
@@ -47,3 +50,11 @@ asOneChange x = oneNumber (x .refusal) (cond (x .some) (x .minute) minutes)
 -- the record that counts: its position, and 2 ^ 63 for none
 abbrev pub asOneRecord : Answer → ℕ
 asOneRecord x = oneNumber (x .refusal) (cond (x .some) (x .position) (2 ^ 63))
+
+-- the first conflict: the bit of its pair, and 2 ^ 32 for none
+abbrev pub asOneConflict : Conflicting → ℕ
+asOneConflict x = oneNumber (x .refusal) (cond (x .some) (pairIndex (x .a) (x .b)) (2 ^ 32))
+
+-- its pair, where there is one, is of two nodes, a below b
+abbrev pub NamesTwo : Conflicting → Type 0
+NamesTwo x = x .some ≡ true → (x .a < x .b) × (x .b < maxNodes)

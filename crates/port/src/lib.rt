@@ -2,7 +2,11 @@
 use calls::snapshot::load;
 use calls::snapshot::write;
 use listing::records::list_entries;
+use merge::conflict::Conflict;
+use merge::conflict::first_conflict;
+use merge::pinned::reconcile_pinned;
 use merge::reconcile::reconcile;
+use packed::edges::index;
 use preview::preview::preview_add;
 use preview::preview::preview_remove;
 use schedule::change::Change;
@@ -17,6 +21,9 @@ use topk::entries::Entry;
 use topk::list::Answer;
 use topk::list::list;
 ghost use mathlib.Core.Path.{_≡_};
+ghost use Rattle.merge.specs.BroughtLent.{broughtAtEntry};
+ghost use Rattle.merge.specs.Conflict.{conflictCall, numbersOf as conflictNumbers};
+ghost use Rattle.merge.specs.Pinned.{pinnedCall};
 ghost use Rattle.merge.specs.Reconcile.{reconcileCall};
 ghost use Rattle.preview.specs.Preview.{previewAddCall, previewed, previewRemoveCall};
 ghost use Rattle.schedule.specs.Change.{nextOf, numbersOf};
@@ -27,7 +34,7 @@ ghost use Rattle.state.specs.Outcome.{left};
 ghost use Rattle.state.specs.Refusal.{oneNumber};
 ghost use Rattle.state.specs.Lent.{atEntry, atExit};
 ghost use Rattle.calls.specs.Snapshot.{loadCall, written, writeCall};
-ghost use Rattle.port.specs.Port.{asOneChange, asOneRecord, atPortEntry, atPortExit, portEntries, portList};
+ghost use Rattle.port.specs.Port.{asOneChange, asOneConflict, asOneRecord, NamesTwo, atPortEntry, atPortExit, portEntries, portList};
 
 // Loads a sheet.
 #[no_mangle]
@@ -102,6 +109,52 @@ pub extern "C" fn fj_port_reconcile(
     ensures { λ r. ⌜ left r (atExit links figures marks) ≡ reconcileCall (atEntry links figures marks) (now (theirs .entry)) (now (original .entry)) ⌝ }
 {
     reconcile(links, figures, marks, theirs, original)
+}
+
+// Brings another editor's changes into a board, where each editor may have confirmed pairs.
+#[no_mangle]
+pub extern "C" fn fj_port_reconcile_pinned(
+    links: &mut [u8],
+    figures: &mut [u64],
+    marks: &mut [u8],
+    pins: &[u8],
+    theirs: &[u8],
+    their_pins: &[u8],
+    original: &[u8],
+) -> u64
+    ensures { λ r. ⌜ left r (atExit links figures marks) ≡ pinnedCall (atEntry links figures marks) (broughtAtEntry pins theirs «their_pins» original) ⌝ }
+{
+    reconcile_pinned(links, figures, marks, pins, theirs, their_pins, original)
+}
+
+// Stands for no conflict, where a bit would stand.
+const NO_CONFLICT: u64 = 4294967296;
+
+// A conflict as one number: the bit of its pair, or that there is none, or 2^64 less the refusal number.
+fn number_of_conflict(conflict: Conflict) -> u64
+    requires { ⌜ NamesTwo (conflictNumbers conflict) ⌝ }
+    ensures { λ r. ⌜ r ≡ asOneConflict (conflictNumbers conflict) ⌝ }
+{
+    match conflict {
+        Conflict::Between { a, b } => index(a, b) as u64,
+        Conflict::NoConflict => NO_CONFLICT,
+        Conflict::Refused { refusal } => one_number(refusal, NO_CONFLICT),
+    }
+}
+
+// The lowest pair on which both editors have spoken and which they left different.
+#[no_mangle]
+pub extern "C" fn fj_port_conflict(
+    links: &[u8],
+    n: u64,
+    pins: &[u8],
+    theirs: &[u8],
+    their_pins: &[u8],
+    original: &[u8],
+) -> u64
+    ensures { λ r. ⌜ r ≡ asOneConflict (conflictNumbers (conflictCall (now (links .entry)) n (broughtAtEntry pins theirs «their_pins» original))) ⌝ }
+{
+    number_of_conflict(first_conflict(links, n as usize, pins, theirs, their_pins, original))
 }
 
 // What adding a link would change, post by post.

@@ -10,11 +10,11 @@ use borrow.Author.Tests.{eq-eqb, le-leb, le-ltb, lt-leb, lt-ltb, ne-eqb}
 use lib.ListN.{length}
 use Rattle.arith.proofs.Tests.{test}
 use Rattle.ego.specs.Graph.{Graph}
-use Rattle.packed.specs.Pairs.{maxNodes}
+use Rattle.packed.specs.Pairs.{anyPair, maxNodes}
 use Rattle.packed.specs.inside.Room.{Room}
 use Rattle.state.specs.Marks.{markBytes}
 use Rattle.state.specs.Outcome.{edgeLengths, stateLengths}
-use Rattle.state.specs.Refusal.{bufferLength, Condition, crowdedAfter, crowdedBefore, edgeAbsent, edgePresent, listLength, nodeCount, nodeNumber, oneNumber, otherCount, refusal, sameNodes, scratchLength, snapshotNodes, tooMany}
+use Rattle.state.specs.Refusal.{bufferLength, Condition, crowdedAfter, crowdedBefore, edgeAbsent, edgePresent, listLength, nodeCount, nodeNumber, oneNumber, otherCount, refusal, sameNodes, scratchLength, snapshotNodes, someConflict, tooMany}
 use Rattle.state.specs.Sizes.{edgeBytes}
 
 -- ---- lists of conditions
@@ -131,6 +131,14 @@ module _ (cs : List Condition) where
   pub passed-after : (g : Graph) (n : ℕ) (which : ℕ → Bool) → tooMany g n which ≡ false → refusal (crowdedAfter g n which ∷ cs) ≡ refusal cs
   unfolding refusal crowdedAfter
   passed-after g n which e = rw e
+
+  pub refused-conflict : (conflict : Graph) (n : ℕ) → anyPair conflict n ≡ true → refusal (someConflict conflict n ∷ cs) ≡ 15
+  unfolding refusal someConflict
+  refused-conflict conflict n e = rw e
+
+  pub passed-conflict : (conflict : Graph) (n : ℕ) → anyPair conflict n ≡ false → refusal (someConflict conflict n ∷ cs) ≡ refusal cs
+  unfolding refusal someConflict
+  passed-conflict conflict n e = rw e
 
 -- ---- lengths that are accepted
 

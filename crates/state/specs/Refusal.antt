@@ -6,7 +6,7 @@ use lib.Dec.{eqb, ltb, leb}
 use lib.ListN.{length, getD, drop}
 use Rattle.arith.specs.Sums.{anyTo}
 use Rattle.packed.specs.Bits.{bitAt}
-use Rattle.packed.specs.Pairs.{maxNodes, pairCount}
+use Rattle.packed.specs.Pairs.{anyPair, maxNodes, pairCount}
 use Rattle.ego.specs.Limits.{limit}
 use Rattle.ego.specs.Graph.{Graph, degree}
 use Rattle.state.specs.Sizes.{edgeBytes, snapshotBytes}
@@ -111,3 +111,7 @@ noHours from to = (13, leb to from)
 -- 14. A survey is not a whole number of records. It is tested after 2 and before 4.
 unfoldable pub partRecord : ℕ → ℕ → Condition
 partRecord required actual = (14, not (eqb (actual % required) 0))
+
+-- 15. Both editors have spoken on a pair and left it different; `conflict` says of which pairs so. It is tested after 11 and before 12.
+unfoldable pub someConflict : Graph → ℕ → Condition
+someConflict conflict n = (15, anyPair conflict n)

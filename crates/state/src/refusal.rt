@@ -1,5 +1,5 @@
-// The refusal numbers. A call tests what they stand for in their order, but for 13, which comes after 5, and 14, which comes before 4. A call that is
-// accepted answers 0.
+// The refusal numbers. A call tests what they stand for in their order, but for 13, which comes after 5, 14, which comes before 4, and 15, which comes
+// before 12. A call that is accepted answers 0.
 ghost use mathlib.Core.List.{[], _∷_};
 ghost use mathlib.Core.Path.{_≡_};
 ghost use Rattle.state.specs.Refusal.{oneNumber, pairConditions, refusal};
@@ -46,6 +46,9 @@ pub const NO_HOURS: u64 = 13;
 
 // A survey is not a whole number of records.
 pub const PART_RECORD: u64 = 14;
+
+// Both editors have spoken on a pair and left it different.
+pub const CONFLICT: u64 = 15;
 
 // Refusals 4 and 5 of a pair.
 pub fn pair_refusal(n: usize, a: usize, b: usize) -> u64

@@ -1,8 +1,9 @@
 -- `packed::bits::next_differing` meets its contract: a walk over words, and the two agree on every bit before i. Assumes nothing.
-use Prim.Native.Nat.{_-_, ℕ}
+use mathlib.Core.Path.{subst, _≡_}
+use Prim.Native.Nat.{_%_, _*_, _+_, _-_, _/_, ℕ}
 use native.Mathlib.Omega.{arith}
 use lib.Bits.{bitXor}
-use Rattle.packed.proofs.FirstLaws.{Passed, passed-all, passed-none, turn-ends, turn-finds, turn-goes, word-has-differing}
+use Rattle.packed.proofs.FirstLaws.{differ-same, Passed, passed-all, passed-none, passed-over, same-bits, turn-ends, turn-finds, turn-goes, word-has-differing}
 use Rattle.packed.specs.Bits.{bitAt, differ}
 use Rattle.packed.proofs.bits.next_differing.Statement.{statement}
 use Rattle.packed.proofs.bits.next_differing.Tie as tie
@@ -41,12 +42,17 @@ returns-2 c =
     (word-has-differing _ _ _ (found .before .before .word-at .ensures) (found .before .word-at2 .ensures))
     (found .first-one .ensures) (c .before .if1 .left) (c .if2 .taken)
 
+-- the words after this one that are the same
 loop-again : tie.Need-loop-again Inv-loop μ-loop
 loop-again c =
-    let found = c .before .before in
-    turn-goes (word found) (walk found .loop .inv)
+    let found = c .before .before .before in
+    let i = walk found .loop .i in
+    let e : i + (64 - i % 8) ≡ 8 * (i / 8 + 8) = omega arith in
+    let p = subst (Passed _ _ _) e (turn-goes (word found) (walk found .loop .inv)
     (word-has-differing _ _ _ (found .before .before .word-at .ensures) (found .before .word-at2 .ensures))
-    (found .first-one .ensures) (c .before .if1 .left) (c .if2 .left)
+    (found .first-one .ensures) (c .before .before .if1 .left) (c .before .if2 .left)) in
+    passed-over _ p (omega arith) (omega (arith, p .stop, c .same-words .ensures .stop))
+    (λ k a b. differ-same (same-bits _ _ _ (c .same-words .ensures) k a b))
 
 returns-3 : tie.Need-returns-3 Inv-loop μ-loop
 returns-3 c = passed-all (c .before .loop .inv) (c .loop-test .left)
@@ -55,4 +61,4 @@ pub next-differing-spec : {M : Type 1} → statement M
 next-differing-spec =
     tie.close
     (tie.spec Inv-loop μ-loop loop-holds (λ c κs. omega arith) (λ c κs. omega arith) (λ c κs. omega arith) (λ c. omega arith) sub-if1-2
-    returns sub-result (λ c. omega arith) returns-2 (λ c. omega arith) (λ c. omega arith) (λ c. omega arith) loop-again returns-3)
+    returns sub-result (λ c. omega arith) returns-2 (λ c. omega arith) (λ c. omega arith) (λ c κs. (omega arith, omega arith)) (λ c. omega (arith, c .same-words .ensures .stop)) (λ c. omega (arith, c .same-words .ensures .stop)) (λ c. omega (arith, c .same-words .ensures .stop)) (λ c. omega (arith, c .same-words .ensures .stop)) loop-again returns-3)
