@@ -128,6 +128,22 @@ pub fn approach(rng: &mut Rng, n: usize, memory: &mut Memory, nodes: impl FnOnce
     }
 }
 
+/// The figures come to be of one to three values, so that many are equal, and the nodes all open, all settled or any.
+pub fn level(rng: &mut Rng, n: usize, memory: &mut Memory) {
+    let others = [some_units(rng), rng.next()];
+    let all = [&[0, 1, UNIT, u64::MAX - 1, u64::MAX][..], &others].concat();
+    let values: Vec<u64> = (0..rng.between(1, 3)).map(|_| rng.pick(&all)).collect();
+    for p in 0..n {
+        let figure = rng.pick(&values);
+        put_figure(memory, p, figure);
+    }
+    memory.marks = match rng.below(3) {
+        0 => vec![0; mark_bytes(n)],
+        1 => vec![255; mark_bytes(n)],
+        _ => rng.bytes(mark_bytes(n)),
+    };
+}
+
 /// A state of the right lengths: ceilings, figures near them or false figures, any marks, any spare bits.
 pub fn state(rng: &mut Rng, n: usize) -> Memory {
     let mut memory = Memory {

@@ -8,7 +8,7 @@ pub struct Entry {
     pub figure: u64,
 }
 
-pub trait Calls {
+pub trait Calls: Sync {
     /// What is called, for messages.
     fn name(&self) -> &'static str;
     fn clear(&self, n: u64, edges: &mut [u8], figures: &mut [u8], marks: &mut [u8]) -> u64;

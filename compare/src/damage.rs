@@ -3,7 +3,7 @@
 use crate::boards::{node_count, random_edges};
 use crate::crowd::{crowd, crowd_one};
 use crate::memory::{Call, Kind, Memory};
-use crate::plain::packing::{edge_bytes, mark_bytes};
+use crate::plain::packing::{edge_bytes, mark_bytes, scratch_bytes};
 use crate::rng::Rng;
 use crate::schedule_damage::damage_schedule;
 use crate::survey_damage::damage_survey;
@@ -48,7 +48,12 @@ fn wrong_length(rng: &mut Rng, right: usize) -> usize {
 }
 
 fn resize(rng: &mut Rng, bytes: &mut Vec<u8>) {
-    let length = wrong_length(rng, bytes.len());
+    resize_about(rng, bytes, bytes.len());
+}
+
+/// The bytes come to another length than the right one: they are cut, or any others follow them.
+fn resize_about(rng: &mut Rng, bytes: &mut Vec<u8>, right: usize) {
+    let length = wrong_length(rng, right);
     let fresh = rng.bytes(length);
     let kept = bytes.len().min(length);
     bytes.truncate(length);
@@ -90,7 +95,7 @@ pub fn damage(rng: &mut Rng, n: usize, memory: &mut Memory, call: &mut Call) {
         Edges => resize(rng, &mut memory.edges),
         Marks => resize(rng, &mut memory.marks),
         Figures => resize(rng, &mut memory.figures),
-        Scratch => resize(rng, &mut memory.scratch),
+        Scratch => resize_about(rng, &mut memory.scratch, scratch_bytes(n)),
         Snapshot => resize(rng, &mut memory.snapshot),
         Schedule => damage_schedule(rng, &mut memory.schedule),
         Survey => damage_survey(rng, n, &mut memory.survey),

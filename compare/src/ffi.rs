@@ -1,14 +1,16 @@
-//! The proved library, through its C functions. Every `unsafe` of this package is in this file.
+//! The proved library, through its C functions. Every `unsafe` of this package is in this file, but the one of
+//! stack/depth.rs, which reads what a call leaves on the stack.
 //!
-//! Without the static libraries (build.rs finds them) nothing is linked and `linked` answers `None`.
+//! Without the static libraries (build.rs finds them) nothing is linked, and `linked` and `empty` answer `None`.
 
 #[cfg(linked)]
 mod linked_library {
     use crate::calls::{Calls, Entry};
+    use std::ptr::read_volatile;
 
-    /// Declares the C functions, and the library's calls over them. The arguments are numbers, slices that the call
-    /// reads, numbers, slices that it may write, slices that it reads, and numbers; to C a slice is its address and its
-    /// length.
+    /// Declares the C functions, functions of the same types that do nothing, and the calls over either. The arguments
+    /// are numbers, slices that the call reads, numbers, slices that it may write, slices that it reads, and numbers; to
+    /// C a slice is its address and its length.
     macro_rules! calls {
         ($($c:ident as $call:ident(
             $($first:ident: $f:ty),*;
@@ -33,9 +35,24 @@ mod linked_library {
                 }
             }
 
-            impl Calls for Linked {
+            mod empty {
+                use super::Entry;
+
+                $(pub extern "C" fn $c(
+                    $(_: $f,)*
+                    $(_: *const $s, _: usize,)*
+                    $(_: $g,)*
+                    $(_: *mut $l, _: usize,)*
+                    $(_: *const $r, _: usize,)*
+                    $(_: $t,)*
+                ) -> u64 {
+                    0
+                })*
+            }
+
+            impl<const EMPTY: bool> Calls for Functions<EMPTY> {
                 fn name(&self) -> &'static str {
-                    "library"
+                    if EMPTY { "empty" } else { "library" }
                 }
 
                 $(fn $call(
@@ -47,8 +64,18 @@ mod linked_library {
                     $($read: &[$r],)*
                     $($last: $t,)*
                 ) -> u64 {
+                    type Function = unsafe extern "C" fn(
+                        $($f,)*
+                        $(*const $s, usize,)*
+                        $($g,)*
+                        $(*mut $l, usize,)*
+                        $(*const $r, usize,)*
+                        $($t,)*
+                    ) -> u64;
+                    const NOTHING: Function = empty::$c;
                     unsafe {
-                        c::$c(
+                        let function: Function = if EMPTY { read_volatile(&NOTHING) } else { c::$c };
+                        function(
                             $($first,)*
                             $($seen.as_ptr(), $seen.len(),)*
                             $($given,)*
@@ -62,9 +89,10 @@ mod linked_library {
         };
     }
 
-    /// The library as linked. Safe: each function is proved to touch nothing beyond the slices that
-    /// it is lent, and slices of Rust are disjoint and of the stated lengths.
-    pub struct Linked;
+    /// The library as linked, or functions that do nothing; the address of these is read at each call, so that none is
+    /// left out. Safe: each function is proved to touch nothing beyond the slices that it is lent, and slices of Rust are
+    /// disjoint and of the stated lengths.
+    pub struct Functions<const EMPTY: bool>;
 
     calls! {
         fj_clear as clear(n: u64; ; ; edges: u8, figures: u8, marks: u8; ;);
@@ -101,7 +129,15 @@ mod linked_library {
 /// The linked library, where there is one.
 pub fn linked() -> Option<&'static dyn crate::calls::Calls> {
     #[cfg(linked)]
-    return Some(&linked_library::Linked);
+    return Some(&linked_library::Functions::<false>);
+    #[cfg(not(linked))]
+    None
+}
+
+/// Calls that are reached as those of the linked library are, and do nothing.
+pub fn empty() -> Option<&'static dyn crate::calls::Calls> {
+    #[cfg(linked)]
+    return Some(&linked_library::Functions::<true>);
     #[cfg(not(linked))]
     None
 }

@@ -1,9 +1,9 @@
 //! Random calls, with what they bring.
 
-use crate::boards::{approach, node_count, random_edges, set_spare};
+use crate::boards::{approach, level, node_count, random_edges, set_spare};
 use crate::memory::{Call, Kind, Memory};
 use crate::plain::graph::Graph;
-use crate::plain::packing::{bit, edge_bytes, pair_count, pair_index};
+use crate::plain::packing::{bit, edge_bytes, pair_count, pair_index, scratch_bytes};
 use crate::reconciles::{bring_pins, bring_theirs};
 use crate::rng::Rng;
 use crate::schedules::schedule;
@@ -75,8 +75,26 @@ fn bring_entries(rng: &mut Rng, n: usize, memory: &mut Memory) {
     };
     let odd = usize::from(rng.chance(5));
     memory.entries = (0..2 * k + odd).map(|_| rng.next()).collect();
-    let more = rng.below(4);
-    memory.scratch = rng.bytes(n + more);
+    memory.scratch = scratch(rng, n);
+    if rng.chance(20) {
+        level(rng, n, memory);
+    }
+}
+
+/// A scratch of any bytes or of ones: mostly of the fewest bytes, or a few more, up to one for each node.
+fn scratch(rng: &mut Rng, n: usize) -> Vec<u8> {
+    let fewest = scratch_bytes(n);
+    let length = match rng.below(10) {
+        0..=5 => fewest,
+        6 => fewest + 1,
+        7 => fewest + rng.below(40),
+        _ => n,
+    };
+    if rng.chance(20) {
+        vec![255; length]
+    } else {
+        rng.bytes(length)
+    }
 }
 
 /// The nodes of an edit: mostly a joined pair to remove, an unjoined one to add.
@@ -122,4 +140,59 @@ pub fn call_of_kind(rng: &mut Rng, n: usize, memory: &mut Memory, kind: Kind) ->
         Kind::List | Kind::ListEntries => bring_entries(rng, n, memory),
     }
     call
+}
+
+#[cfg(test)]
+mod tests {
+    use super::call_of_kind;
+    use crate::boards::{node_count, state};
+    use crate::damage::damage;
+    use crate::memory::{Kind, Memory};
+    use crate::plain::packing::scratch_bytes;
+    use crate::rng::Rng;
+
+    /// What lists are lent on boards whose n is no multiple of 8, as generated and after damage.
+    fn lists(kind: Kind) -> Vec<(usize, Memory)> {
+        let mut rng = Rng::new(8);
+        let mut all = Vec::new();
+        for _ in 0..4_000 {
+            let n = node_count(&mut rng);
+            let mut memory = state(&mut rng, n);
+            let mut call = call_of_kind(&mut rng, n, &mut memory, kind);
+            if rng.chance(50) {
+                damage(&mut rng, n, &mut memory, &mut call);
+            }
+            if !n.is_multiple_of(8) && memory.figures.len() == 8 * n {
+                all.push((n, memory));
+            }
+        }
+        all
+    }
+
+    #[test]
+    fn lists_meet_scratches_about_their_length() {
+        for kind in [Kind::List, Kind::ListEntries] {
+            let lists = lists(kind);
+            let met = |what: &dyn Fn(usize, &[u8]) -> bool| lists.iter().any(|(n, lent)| what(*n, &lent.scratch));
+            assert!(met(&|_, scratch| scratch.is_empty()));
+            assert!(met(&|n, scratch| n > 8 && scratch.len() == scratch_bytes(n) - 1));
+            assert!(met(&|n, scratch| n > 8 && scratch.len() == scratch_bytes(n) && scratch.iter().all(|&b| b == 255)));
+            assert!(met(&|n, scratch| n > 8 && scratch.len() == scratch_bytes(n) + 1));
+            assert!(met(&|n, scratch| n > 120 && scratch.len() == n));
+        }
+    }
+
+    #[test]
+    fn lists_meet_boards_of_equal_figures() {
+        for kind in [Kind::List, Kind::ListEntries] {
+            let lists = lists(kind);
+            for figure in [0, u64::MAX] {
+                let level = |lent: &Memory| lent.figures.chunks(8).all(|bytes| bytes == figure.to_le_bytes());
+                for mark in [0, 255] {
+                    let marked = |lent: &Memory| lent.marks.iter().all(|&byte| byte == mark);
+                    assert!(lists.iter().any(|(n, lent)| *n > 16 && level(lent) && marked(lent)), "{figure} {mark}");
+                }
+            }
+        }
+    }
 }

@@ -26,6 +26,7 @@ pub mod schedule_text;
 mod schedules;
 pub mod scripts;
 pub mod sheet_text;
+pub mod stack;
 mod survey_damage;
 pub mod survey_text;
 mod surveys;

@@ -2,7 +2,7 @@
 
 use compare::calls::Calls;
 use compare::plain::replay::replay;
-use compare::{bench, ffi, named, run, schedule_text, scripts, sheet_text, survey_text, text, tuned};
+use compare::{bench, ffi, named, run, schedule_text, scripts, sheet_text, stack, survey_text, text, tuned};
 use std::env;
 use std::fs::File;
 use std::io::{self, Read, Write};
@@ -16,6 +16,8 @@ const USAGE: &str = "usage:
                                         a script program against the plain one, on random scripts
   compare bench                         tables of times and of the work of a list, the library
                                         beside the tuned version
+  compare stack                         a table of the bytes of stack that each call of the library
+                                        needs, by n
   compare pack [FILE]                   a text to a script; reads standard input without FILE
   compare unpack [FILE]                 a script to a text
   compare pack-schedule [FILE]          a text of opening hours to a schedule
@@ -44,6 +46,7 @@ fn main() -> ExitCode {
             bench::run(ffi::linked());
             Ok(())
         }
+        Some((&"stack", [])) => stack_table(),
         Some((&"pack", rest)) => pack(rest, text::pack),
         Some((&"unpack", rest)) => unpack(rest, text::unpack),
         Some((&"pack-schedule", rest)) => pack(rest, schedule_text::pack),
@@ -66,7 +69,12 @@ fn main() -> ExitCode {
 }
 
 fn library() -> Result<&'static dyn Calls, String> {
-    ffi::linked().ok_or_else(|| {
+    linked(ffi::linked())
+}
+
+/// What is there where the library is linked.
+fn linked(version: Option<&'static dyn Calls>) -> Result<&'static dyn Calls, String> {
+    version.ok_or_else(|| {
         "the library is not linked: run `rt staticlib capi` and `rt staticlib port`, and build again".to_string()
     })
 }
@@ -102,6 +110,11 @@ fn comparison(version: &dyn Calls, words: &[&str]) -> Result<(), String> {
         start.elapsed().as_secs_f64()
     );
     Ok(())
+}
+
+/// The stack that the library's calls need.
+fn stack_table() -> Result<(), String> {
+    stack::run(library()?, linked(ffi::empty())?)
 }
 
 /// Random scripts, whole and damaged.

@@ -1,7 +1,7 @@
 //! A board that owns all that a call is lent.
 
 use crate::calls::{Calls, Entry};
-use crate::plain::packing::{bit, edge_bytes, mark_bytes, pair_index, pairs, put_bit};
+use crate::plain::packing::{bit, edge_bytes, mark_bytes, pair_index, pairs, put_bit, scratch_bytes};
 use crate::rng::Rng;
 use crate::tuned::Tuned;
 
@@ -85,7 +85,7 @@ impl Board {
             their_pins: vec![0; edge_bytes(n)],
             entries: vec![0; 16],
             records: vec![Entry::default(); 8],
-            scratch: vec![0; n],
+            scratch: vec![0; scratch_bytes(n)],
             changes: vec![0; n],
             schedule: vec![snapshot[0]],
             survey: Vec::new(),

@@ -68,7 +68,7 @@ fn absent(present: &[Board]) -> Vec<Board> {
 
 /// The board to reconcile: theirs lacks four edges that mine and the base have, and has four that they lack, so there
 /// are four removals and four additions.
-fn merged(board: &Board, joined: &[(usize, usize)]) -> Board {
+pub fn merged(board: &Board, joined: &[(usize, usize)]) -> Board {
     let mut merged = board.clone();
     for &(a, b) in joined.iter().take(4) {
         put_bit(&mut merged.theirs, pair_index(a, b), false);
@@ -82,7 +82,7 @@ fn merged(board: &Board, joined: &[(usize, usize)]) -> Board {
 
 /// That board with pins: mine confirms half of the links that both have, theirs these and its own changes, so there is no
 /// conflict.
-fn pinned(merged: &Board, joined: &[(usize, usize)]) -> Board {
+pub fn pinned(merged: &Board, joined: &[(usize, usize)]) -> Board {
     let mut pinned = merged.clone();
     for &(a, b) in joined[4..joined.len() - 4].iter().step_by(2) {
         put_bit(&mut pinned.pins, pair_index(a, b), true);

@@ -1,11 +1,11 @@
 //! The benchmark: each call on the same boards, the library beside the tuned version, medians and their ratio; then how
 //! many nodes a list works out, and the calls of schedules and of surveys. Nothing is asserted of a time.
 
-mod board;
-mod cases;
+pub(crate) mod board;
+pub(crate) mod cases;
 mod files;
-mod schedules;
-mod surveys;
+pub(crate) mod schedules;
+pub(crate) mod surveys;
 mod time;
 mod worked;
 

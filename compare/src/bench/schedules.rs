@@ -15,7 +15,7 @@ const MINUTE: usize = WEEK / 2;
 /// About how many records a pair has that is open until late.
 const PIECES: usize = 8;
 
-const ROWS: [Row; 5] = [
+pub const ROWS: [Row; 5] = [
     ("sheet at a minute", |rng, board, pairs, count| lend(board, spread(rng, pairs, count)), Board::schedule_write),
     ("next change, early", |rng, board, pairs, count| lend(board, spread(rng, pairs, count)), Board::schedule_next),
     ("next change, late", |rng, board, pairs, count| lend(board, joined(rng, pairs, count)), Board::schedule_next),

@@ -11,7 +11,7 @@ use crate::surveys::bytes;
 /// About half of all strengths reach it.
 const THRESHOLD: u64 = 128;
 
-const ROWS: [Row; 2] =
+pub const ROWS: [Row; 2] =
     [("sheet of a survey", lend, Board::survey_write), ("record that counts", lend, Board::survey_position)];
 
 /// A survey of any numbers and strengths, read at the threshold, and asked about the pair of one of its records.

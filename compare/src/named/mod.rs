@@ -1,8 +1,9 @@
 //! Cases by name, each on every call that has the thing tested: the description's that the proofs leave to a run,
 //! the figures of small boards, what previews show and when they are refused, the sheets that are written and when a
 //! write is refused, of timed sheets the sheets at a minute, loads at a minute, next changes, and when these are
-//! refused, of surveys the sheets at a threshold, the records that count, and when these are refused, and of pins the
-//! links that stand, the first conflict, and when a reconcile with pins is refused.
+//! refused, of surveys the sheets at a threshold, the records that count, and when these are refused, of pins the links
+//! that stand, the first conflict, and when a reconcile with pins is refused, and of the scratch the lists that it serves
+//! and when one is refused.
 
 mod figures;
 mod long_surveys;
@@ -16,6 +17,7 @@ mod refusals;
 mod schedule_loads;
 mod schedule_refusals;
 mod schedules;
+mod scratch;
 mod sheet_refusals;
 mod sheets;
 mod survey_refusals;
@@ -23,7 +25,7 @@ mod surveys;
 
 use crate::calls::Calls;
 use crate::memory::{Call, Kind, Memory};
-use crate::plain::packing::{edge_bytes, mark_bytes, pair_count, pair_index, put_bit};
+use crate::plain::packing::{edge_bytes, mark_bytes, pair_count, pair_index, put_bit, scratch_bytes};
 
 /// A board of n posts, with all that a call can be lent: of the lengths that n requires, one entry, no links anywhere,
 /// a timed sheet and a survey without records, and a threshold of 0.
@@ -50,7 +52,7 @@ impl<'a> Board<'a> {
             base: links.clone(),
             edges: links,
             entries: vec![0; 2],
-            scratch: vec![0; n],
+            scratch: vec![0; scratch_bytes(n)],
             changes: vec![0; n],
         };
         Board { version, n, lent, minute: 0, threshold: 0 }
@@ -210,5 +212,7 @@ pub fn run(version: &dyn Calls) -> Result<(), String> {
     run_refused(version, "survey", &survey_refusals::CASES)?;
     pins::run(version)?;
     pinned_boards::run(version)?;
-    run_refused(version, "pins", &pin_refusals::CASES)
+    run_refused(version, "pins", &pin_refusals::CASES)?;
+    scratch::run(version)?;
+    run_refused(version, "scratch", &scratch::REFUSED)
 }

@@ -1,5 +1,6 @@
 //! List: the first k nodes by score, worked out only as far as the order needs.
 
+use super::packing::scratch_bytes;
 use super::refusal::{refuse_if, Refusal};
 use super::score::Scorer;
 use super::state::State;
@@ -34,11 +35,11 @@ pub fn list_entries(state: State, entries: &mut [Entry], scratch: &mut [u8], sco
     Ok(recomputed)
 }
 
-/// The first k nodes, and how many were worked out.
+/// The first k nodes, and how many were worked out. The bytes of the scratch that n requires end as 0.
 fn first(mut state: State, k: usize, scratch: &mut [u8], scorer: Scorer) -> Result<(Vec<Entry>, u64), Refusal> {
     state.check()?;
     let n = state.node_count();
-    refuse_if(scratch.len() < n, Refusal::ShortScratch)?;
+    refuse_if(scratch.len() < scratch_bytes(n), Refusal::ShortScratch)?;
     refuse_if(k == 0 || k > n, Refusal::EntryCount)?;
     let graph = state.graph();
     refuse_if(graph.any_crowded(), Refusal::Crowded)?;
@@ -61,6 +62,6 @@ fn first(mut state: State, k: usize, scratch: &mut [u8], scorer: Scorer) -> Resu
         sort(&mut kept);
         kept.truncate(k);
     }
-    scratch[..n].fill(0);
+    scratch[..scratch_bytes(n)].fill(0);
     Ok((kept, recomputed))
 }

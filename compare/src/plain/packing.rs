@@ -20,6 +20,11 @@ pub fn mark_bytes(n: usize) -> usize {
     bytes_for(n)
 }
 
+/// The fewest bytes of a list's scratch.
+pub fn scratch_bytes(n: usize) -> usize {
+    bytes_for(n)
+}
+
 /// The bit of the unordered pair a, b.
 pub fn pair_index(a: usize, b: usize) -> usize {
     let (low, high) = if a < b { (a, b) } else { (b, a) };

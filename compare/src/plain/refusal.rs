@@ -7,7 +7,7 @@ pub enum Refusal {
     NodeCount = 1,
     /// An edges, pins, marks, figures, changes or written-snapshot buffer has another length than n requires.
     BufferLength = 2,
-    /// The scratch is shorter than n bytes.
+    /// The scratch is shorter than n bits, rounded up to bytes.
     ShortScratch = 3,
     /// A node number is n or more.
     NoSuchNode = 4,

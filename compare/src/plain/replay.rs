@@ -2,7 +2,7 @@
 
 use super::edit::{add, remove};
 use super::list::list;
-use super::packing::{edge_bytes, mark_bytes};
+use super::packing::{edge_bytes, mark_bytes, scratch_bytes};
 use super::paths;
 use super::refusal::Refusal;
 use super::script::{record, Record, MAX_BYTES, RECORD_BITS};
@@ -35,7 +35,7 @@ pub fn replay(script: &[u8]) -> String {
             }
             Ok(Record::List(k)) => {
                 let mut entries = vec![0; 2 * k];
-                let mut scratch = vec![0; n];
+                let mut scratch = vec![0; scratch_bytes(n)];
                 match list(state, &mut entries, &mut scratch, paths::score) {
                     Ok(recomputed) => {
                         writeln!(out, "head {k} 0 {recomputed}").unwrap();

@@ -6,7 +6,7 @@ mod previews;
 
 use super::calls::Plain;
 use super::limits::UNIT;
-use super::packing::{bit, edge_bytes, mark_bytes};
+use super::packing::{bit, edge_bytes, mark_bytes, scratch_bytes};
 use super::replay::replay;
 use super::{derived, paths};
 use crate::calls::Calls;
@@ -119,10 +119,10 @@ impl Board {
     fn list(&mut self, plain: &Plain, k: usize) -> (u64, Vec<u64>) {
         let mut figures = self.figures();
         let mut entries = vec![7; 2 * k];
-        let mut scratch = vec![9; self.n];
+        let mut scratch = vec![9; scratch_bytes(self.n)];
         let worked = plain.list(&mut self.edges, &mut figures, &mut self.marks, &mut entries, &mut scratch);
         self.put_figures(&figures);
-        assert_eq!(scratch, vec![0; self.n]);
+        assert_eq!(scratch, vec![0; scratch_bytes(self.n)]);
         (worked, entries)
     }
 }
@@ -243,6 +243,13 @@ fn the_example_graph_of_the_source() {
         assert_eq!(board.remove(plain, i, k), 0);
         assert_eq!(board.remove(plain, c, g), 0);
         assert_eq!(board.scores(plain), due(2));
+    }
+}
+
+#[test]
+fn the_scratch_of_a_list_has_a_bit_for_each_node() {
+    for (n, length) in [(1, 1), (7, 1), (8, 1), (9, 2), (16, 2), (17, 3), (255, 32), (256, 32)] {
+        assert_eq!(scratch_bytes(n), length);
     }
 }
 

@@ -1,6 +1,6 @@
 //! List: a heap of the stored figures, popped only as far as the order needs.
 
-use super::refuse::{self, any_over, CROWDED, ENTRY_COUNT, SHORT_SCRATCH};
+use super::refuse::{self, any_over, scratch_bytes, CROWDED, ENTRY_COUNT, SHORT_SCRATCH};
 use super::rows::{bit, rows};
 use super::score::from_rows;
 use crate::calls::Entry;
@@ -55,7 +55,8 @@ pub fn list(
     if refusal != 0 {
         return Err(refusal);
     }
-    if scratch.len() < n {
+    let used = scratch_bytes(n);
+    if scratch.len() < used {
         return Err(SHORT_SCRATCH);
     }
     let k = entries.count();
@@ -93,7 +94,7 @@ pub fn list(
         }
         entries.put(place, Entry { node: node as u64, figure });
     }
-    scratch[..n].fill(0);
+    scratch[..used].fill(0);
     Ok(recomputed)
 }
 

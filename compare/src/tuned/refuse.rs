@@ -24,6 +24,12 @@ pub fn edge_bytes(n: usize) -> usize {
     (n * (n - 1) / 2).div_ceil(8)
 }
 
+/// The fewest bytes of a list's scratch.
+#[inline]
+pub fn scratch_bytes(n: usize) -> usize {
+    n.div_ceil(8)
+}
+
 /// n as a count of nodes, or refusal 1.
 #[inline]
 pub fn node_count(n: u64) -> Result<usize, u64> {

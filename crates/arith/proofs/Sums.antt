@@ -145,18 +145,6 @@ module _ {A : Type 0} where
   getD-fillTo-past f l d (suc n) i h =
       getD-set-other (fillTo f l n) n i (f n) d (λ e. omega arith) ∙ getD-fillTo-past f l d n i (omega arith)
 
-  -- what was filled before is lost where as many places are filled again
-  pub fill-over : (f g : ℕ → A) (l : List A) (d : A) (m n : ℕ) → m ≤ n → n ≤ length l → fillTo f (fillTo g l m) n ≡ fillTo f l n
-  fill-over f g l d m n h k =
-      let e = length-fillTo g l m in
-      ext-getD d (fillTo f (fillTo g l m) n) (fillTo f l n) (length-fillTo f (fillTo g l m) n ∙ e ∙ sym (length-fillTo f l n)) (λ i b.
-      elim (decLt i n) [
-        | yes s ↦ getD-fillTo f (fillTo g l m) d n i s (omega arith) ∙ sym (getD-fillTo f l d n i s k)
-        | no s ↦
-            getD-fillTo-past f (fillTo g l m) d n i (omega arith) ∙ getD-fillTo-past g l d m i (omega arith)
-            ∙ sym (getD-fillTo-past f l d n i (omega arith))
-      ])
-
 -- ---- a test that some number below n passes
 
 pub anyTo-none : (p : ℕ → Bool) → anyTo p 0 ≡ false

@@ -21,6 +21,7 @@ use Rattle.state.proofs.CrowdedLaws.{before-agree}
 use Rattle.edits.proofs.Sound.{Sound, sound-score}
 use Rattle.state.specs.Marks.{stale}
 use Rattle.state.specs.Refusal.{everyone, refusal}
+use Rattle.state.specs.Sizes.{scratchBytes}
 use Rattle.state.specs.State.{figure, graph, isStale, size, State}
 use Rattle.listing.proofs.RecordLaws.{entries-refused, entries-taken}
 use Rattle.topk.proofs.ListLaws.{call-taken, conditions-pass, list-call-refused, ranOf, refusalOf}
@@ -51,7 +52,7 @@ list-runs : (s : State) (entries : Entries) (scratch : List ℕ) → refusalOf s
       after = ranOf s (room entries);
       recomputed = run .recomputed;
       entries = filledWith (run .kept) entries;
-      scratch = replicate (size s) 0 ++ drop (size s) scratch;
+      scratch = replicate (scratchBytes (size s)) 0 ++ drop (scratchBytes (size s)) scratch;
     }
 unfolding effect
 list-runs s (inRow numbers) scratch z = ap (ofList inRow) (call-taken s scratch numbers (wanted numbers) refl z)

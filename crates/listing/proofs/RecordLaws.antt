@@ -1,4 +1,4 @@
--- Entries as records and in a row: the list of k entries, and a table's rows laid over entries that are lent. Assumes nothing.
+-- Entries as records and in a row: the list of k entries, and the rows of numbers laid over entries that are lent. Assumes nothing.
 use mathlib.Core.Bool.{cond}
 use mathlib.Core.List.{_++_, [], append-assoc, append-nil, List, _∷_}
 use mathlib.Core.Path.{ap, refl, subst, sym, _∙_, _≡_}
@@ -23,10 +23,11 @@ use Rattle.topk.specs.declared.entries.Entry.{Entry}
 use Rattle.topk.proofs.ListLaws.{acceptedOf, call-passed, call-refusal, call-taken, list-call-refused, refusalOf}
 use Rattle.topk.specs.List.{listCall, listConditions, listing, Listed, listOf, wanted}
 use Rattle.listing.specs.Records.{entriesCall}
-use Rattle.listing.specs.inside.Table.{entryIn, Gathered, laid, rows}
+use Rattle.topk.specs.inside.Layout.{entryIn}
+use Rattle.listing.specs.inside.Table.{Gathered, laid, rows}
 use Rattle.topk.specs.Steps.{Progress}
 use Rattle.topk.specs.declared.list.Answer.{Answer}
-use Rattle.listing.specs.declared.records.Table.{Table}
+use Rattle.listing.specs.declared.records.Filled.{Filled}
 
 -- ---- entries in a row
 
@@ -49,7 +50,7 @@ entriesOf-snoc (suc m) E =
     ap {B =
     List Entry} (λ r. entry (getD E 0 0) (getD E 1 0) ∷ r) (entriesOf-snoc m (drop 2 E) ∙ rw (getD-drop 2 E (2 * m) 0, getD-drop 2 E (2 * m + 1) 0, a, b))
 
--- ---- the conditions, with k entries and with as many as a table has room for
+-- ---- the conditions, with k entries and with as many as the numbers have room for
 
 same-length : (n k : ℕ) → n < rows → listLength n (min k rows) ≡ listLength n k
 unfolding listLength
@@ -85,7 +86,7 @@ module _ (s : State) (C : List ℕ) where
     | no d ↦ append-refused (lengths s) (conditions (min k rows)) refl d ∙ sym (append-refused (lengths s) (conditions k) refl d)
   ]
 
-  -- an accepted list has as many nodes, and not more than a table has rows
+  -- an accepted list has as many nodes, and not more than the numbers have rows
   most : (k : ℕ) → refusalOf s C k ≡ 0 → (k ≤ n) × (n < rows)
   most k z = (call-passed s C k z .within, omega (arith, lengths-fit s (conditions k) z .sizes .few))
 
@@ -125,15 +126,19 @@ module _ (s : State) (C : List ℕ) where
         ap (λ (l : Listed ℕ). over-records (entriesOf (length xs) (l .entries)) l) (call-taken s C (flat xs) (length xs) (wanted-flat xs) z)
         ∙ ap (λ (ys : List Entry). over-records ys (acceptedOf s C (length xs) (flat xs))) (kept-back (length xs) _ (most (length xs) z .0))
 
-  -- ---- the table of a list of k entries
+  -- ---- the numbers of a list of k entries
 
   module _ (k : ℕ) (N : List ℕ) (room : 2 * rows ≤ length N) {m : ℕ} (e : m ≡ min k rows) (a : Answer) (s′ : State) (E′ C′ : List ℕ)
       (h : listing (a .refusal) (a .recomputed) s′ E′ C′ ≡ listCall s (take (2 * m) N) C) where
     abbrev E : List ℕ
     E = take (2 * m) N
 
-    abbrev tableOf : ℕ → Table
-    tableOf used = record { answer = a; used = used; numbers = E′ ++ drop (2 * m) N }
+    -- the numbers that are left
+    abbrev left : List ℕ
+    left = E′ ++ drop (2 * m) N
+
+    abbrev filled : ℕ → Filled
+    filled used = record { answer = a; used = used }
 
     wants : wanted E ≡ min k rows
     wants = half (length E) (min k rows) (length-take-le (2 * m) N (omega arith) ∙ ap (λ (i : ℕ). 2 * i) e)
@@ -141,7 +146,7 @@ module _ (s : State) (C : List ℕ) where
     answers : a .refusal ≡ refusalOf s C k
     answers = ap (λ (l : Listed ℕ). l .refusal) h ∙ call-refusal s C E ∙ ap (refusalOf s C) wants ∙ same-refusal k
 
-    gather-refused : (a .refusal ≡ 0 → ⊥) → Gathered s C k (tableOf 0) s′ C′
+    gather-refused : (a .refusal ≡ 0 → ⊥) → Gathered s C k (filled 0) left s′ C′
     unfolding entriesOf
     gather-refused d = record {
       fits = zero-le;
@@ -153,7 +158,7 @@ module _ (s : State) (C : List ℕ) where
           ∙ sym (entries-refused xs (λ z. f (ap (refusalOf s C) (sym l) ∙ z)));
     }
 
-    gather-taken : a .refusal ≡ 0 → Gathered s C k (tableOf k) s′ C′
+    gather-taken : a .refusal ≡ 0 → Gathered s C k (filled k) left s′ C′
     gather-taken z =
         let f : refusalOf s C k ≡ 0 = sym answers ∙ z in
         let t = most k f in
@@ -168,13 +173,13 @@ module _ (s : State) (C : List ℕ) where
               ∙ sym (entries-taken xs (ap (refusalOf s C) l ∙ f));
         }
 
-    pub gathers : {used : ℕ} → used ≡ cond (eqb (a .refusal) 0) k 0 → Gathered s C k (tableOf used) s′ C′
+    pub gathers : {used : ℕ} → used ≡ cond (eqb (a .refusal) 0) k 0 → Gathered s C k (filled used) left s′ C′
     gathers u = elim (ℕ-discrete (a .refusal) 0) [
       | yes z ↦ rw (u, eq-eqb (a .refusal) 0 z) (gather-taken z)
       | no d ↦ rw (u, ne-eqb (a .refusal) 0 d) (gather-refused d)
     ]
 
--- ---- a table's rows, laid over the entries one by one
+-- ---- the rows of numbers, laid over the entries one by one
 
 -- the entries after i turns
 unfoldable pub upto : List ℕ → List Entry → ℕ → List Entry

@@ -6,11 +6,11 @@ use mathlib.Core.Path.{ap, sym, _∙_, _≡_}
 use Prim.Native.Nat.{_+_, _<_, max, min, ℕ}
 use native.Mathlib.Decide.{decLt, ℕ-discrete}
 use native.Mathlib.Omega.{arith}
-use lib.ListN.{getD, length, length-set, replicate, set}
+use lib.ListN.{getD, length, length-set, set}
 use lib.Seq.{ext-getD, getD-set-other, getD-set-same}
-use Rattle.arith.proofs.Sums.{bit-le, count-gain, countTo-ext, countTo-le, getD-fillTo-past}
+use Rattle.arith.proofs.Sums.{bit-le, count-gain, countTo-ext, countTo-le}
 use Rattle.arith.specs.Sums.{bit, countTo}
-use Rattle.packed.proofs.DegreeLaws.{degree-at, length-degrees}
+use Rattle.packed.proofs.DegreeLaws.{degree-at, degree-past, length-degrees}
 use Rattle.packed.proofs.EdgeLaws.{edge-comm, edge-with-other, edge-with-same}
 use Rattle.packed.proofs.PairLaws.{pair-within, room-within}
 use Rattle.packed.specs.Edges.{edge, withEdge}
@@ -69,11 +69,10 @@ module _ (es : List ℕ) (n a b : ℕ) (on : Bool) (two : a ≢ b) (ha : a < n) 
   long : length (degreesOf es n) ≡ maxNodes
   long = length-degrees es n
 
-  elsewhere : (p : ℕ) → p ≢ a → p ≢ b → getD (degreesOf es n) p 0 ≡ getD (degreesOf after n) p 0
-  unfolding degreesOf
-  elsewhere p c d = elim (decLt p n) [
+  elsewhere : (p : ℕ) → p < maxNodes → p ≢ a → p ≢ b → getD (degreesOf es n) p 0 ≡ getD (degreesOf after n) p 0
+  elsewhere p l c d = elim (decLt p n) [
     | yes h ↦ degree-at es n p (room .few) h ∙ sym (other-kept p c d) ∙ sym (degree-at after n p (room .few) h)
-    | no h ↦ getD-fillTo-past _ (replicate maxNodes 0) 0 n p (omega arith) ∙ sym (getD-fillTo-past _ (replicate maxNodes 0) 0 n p (omega arith))
+    | no h ↦ degree-past es n p (omega arith) l ∙ sym (degree-past after n p (omega arith) l)
   ]
 
   -- THE TABLE after the shift is that of the edges after the change
@@ -87,7 +86,7 @@ module _ (es : List ℕ) (n a b : ℕ) (on : Bool) (two : a ≢ b) (ha : a < n) 
         | no d ↦ elim (ℕ-discrete p a) [
           | yes e ↦ rw e (shifted-first ds a b on two (omega (arith, long)) ∙ ap (moved on) (degree-at es n a few ha)
               ∙ sym (first-moved .0) ∙ sym (degree-at after n a few ha))
-          | no c ↦ shifted-other ds a b on p c d ∙ elsewhere p c d
+          | no c ↦ shifted-other ds a b on p c d ∙ elsewhere p (omega (arith, length-shifted ds a b on, long)) c d
         ]
       ])
 

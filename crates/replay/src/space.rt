@@ -1,6 +1,7 @@
 // The arrays that the program lends, all 0.
 use packed::edges::MAX_NODES;
 use script::step::MAX_BYTES;
+use state::scratch::MAX_SCRATCH_BYTES;
 use state::sizes::MAX_EDGE_BYTES;
 use state::sizes::MAX_MARK_BYTES;
 ghost use mathlib.Core.Path.{_≡_};
@@ -10,6 +11,7 @@ ghost use Rattle.packed.specs.Pairs.{maxNodes};
 ghost use Rattle.script.specs.Limits.{maxBytes};
 ghost use Rattle.state.specs.inside.MaxSizes.{maxEdgeBytes};
 ghost use Rattle.state.specs.Marks.{markBytes};
+ghost use Rattle.state.specs.Sizes.{scratchBytes};
 
 // The most bytes of a script, and one more to tell a longer input.
 pub(crate) fn input() -> [u8; MAX_BYTES + 1]
@@ -46,9 +48,9 @@ pub(crate) fn entries() -> [u64; 2 * MAX_NODES]
     [0; 2 * MAX_NODES]
 }
 
-// A byte for each.
-pub(crate) fn scratch() -> [u8; MAX_NODES]
-    ensures { λ r. ⌜ r ≡ replicate maxNodes 0 ⌝ }
+// The scratch of their list.
+pub(crate) fn scratch() -> [u8; MAX_SCRATCH_BYTES]
+    ensures { λ r. ⌜ r ≡ replicate (scratchBytes maxNodes) 0 ⌝ }
 {
-    [0; MAX_NODES]
+    [0; MAX_SCRATCH_BYTES]
 }

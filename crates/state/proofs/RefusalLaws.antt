@@ -15,7 +15,7 @@ use Rattle.packed.specs.inside.Room.{Room}
 use Rattle.state.specs.Marks.{markBytes}
 use Rattle.state.specs.Outcome.{edgeLengths, stateLengths}
 use Rattle.state.specs.Refusal.{bufferLength, Condition, crowdedAfter, crowdedBefore, edgeAbsent, edgePresent, listLength, nodeCount, nodeNumber, oneNumber, otherCount, refusal, sameNodes, scratchLength, snapshotNodes, someConflict, tooMany}
-use Rattle.state.specs.Sizes.{edgeBytes}
+use Rattle.state.specs.Sizes.{edgeBytes, scratchBytes}
 
 -- ---- lists of conditions
 
@@ -56,13 +56,13 @@ module _ (cs : List Condition) where
   unfolding refusal bufferLength
   passed-length required actual e = rw (eq-eqb actual required e)
 
-  pub refused-scratch : (n actual : ℕ) → actual < n → refusal (scratchLength n actual ∷ cs) ≡ 3
+  pub refused-scratch : (n actual : ℕ) → actual < scratchBytes n → refusal (scratchLength n actual ∷ cs) ≡ 3
   unfolding refusal scratchLength
-  refused-scratch n actual h = rw (lt-ltb actual n h)
+  refused-scratch n actual h = rw (lt-ltb actual (scratchBytes n) h)
 
-  pub passed-scratch : (n actual : ℕ) → n ≤ actual → refusal (scratchLength n actual ∷ cs) ≡ refusal cs
+  pub passed-scratch : (n actual : ℕ) → scratchBytes n ≤ actual → refusal (scratchLength n actual ∷ cs) ≡ refusal cs
   unfolding refusal scratchLength
-  passed-scratch n actual h = rw (le-ltb actual n h)
+  passed-scratch n actual h = rw (le-ltb actual (scratchBytes n) h)
 
   pub refused-node : (n p : ℕ) → n ≤ p → refusal (nodeNumber n p ∷ cs) ≡ 4
   unfolding refusal nodeNumber

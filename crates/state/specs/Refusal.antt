@@ -9,7 +9,7 @@ use Rattle.packed.specs.Bits.{bitAt}
 use Rattle.packed.specs.Pairs.{anyPair, maxNodes, pairCount}
 use Rattle.ego.specs.Limits.{limit}
 use Rattle.ego.specs.Graph.{Graph, degree}
-use Rattle.state.specs.Sizes.{edgeBytes, snapshotBytes}
+use Rattle.state.specs.Sizes.{edgeBytes, scratchBytes, snapshotBytes}
 
 -- a condition: its number, and whether it applies
 abbrev pub Condition : Type 0
@@ -32,9 +32,9 @@ nodeCount n = (1, eqb n 0 || ltb maxNodes n)
 unfoldable pub bufferLength : ℕ → ℕ → Condition
 bufferLength required actual = (2, not (eqb actual required))
 
--- 3. The scratch is shorter than n bytes.
+-- 3. The scratch is shorter than n bits, rounded up to bytes.
 unfoldable pub scratchLength : ℕ → ℕ → Condition
-scratchLength n actual = (3, ltb actual n)
+scratchLength n actual = (3, ltb actual (scratchBytes n))
 
 -- 4. A post number is n or more.
 unfoldable pub nodeNumber : ℕ → ℕ → Condition

@@ -7,6 +7,10 @@ use Rattle.packed.specs.Pairs.{pairCount}
 abbrev pub edgeBytes : ℕ → ℕ
 edgeBytes n = bytesFor (pairCount n)
 
+-- the scratch of a list has a bit for each node, rounded up to bytes, or more
+abbrev pub scratchBytes : ℕ → ℕ
+scratchBytes n = bytesFor n
+
 -- the byte n - 1, then the edges
 abbrev pub snapshotBytes : ℕ → ℕ
 snapshotBytes n = 1 + edgeBytes n

@@ -3,4 +3,5 @@ pub mod crowded;
 pub mod figures;
 pub mod marks;
 pub mod refusal;
+pub mod scratch;
 pub mod sizes;

@@ -20,9 +20,10 @@ use Rattle.arith.proofs.Counts.{count-none}
 use Rattle.state.proofs.MarkLaws.{length-withMark, stale-other, stale-same}
 use Rattle.topk.proofs.NextLaws.{figureOf, Free, Taken}
 use Rattle.topk.proofs.Order.{Ahead, ahead-ahead, ahead-asym, Behind, behind-behind, behind-by, behind-flip}
-use Rattle.topk.proofs.Sort.{All, All-map, All-take, In, in-insert, in-last, in-old, in-or-out, insert-all, insert-or, insert-sorted, length-keep, Out, push, Sorted, Sorted-take}
+use Rattle.topk.proofs.Sort.{All-map, All-take, In, in-insert, in-last, in-old, in-or-out, insert-all, insert-or, insert-sorted, length-keep, Out, Pairwise-take, push, Sorted}
 use Rattle.topk.proofs.Top.{scored}
 use Rattle.topk.specs.Entries.{Entry, entry, insert, keep, lastOr, stops}
+use Rattle.topk.specs.inside.Layout.{All}
 use Rattle.state.specs.inside.Honest.{Honest}
 use Rattle.topk.specs.Steps.{at, Progress, atStart, stored, took, worth}
 
@@ -152,7 +153,7 @@ module _ (T : ℕ → ℕ) (F M : List ℕ) (k : ℕ) (s : Progress) (hon : Hone
 
   ys-sorted : Sorted ys
   unfolding ys
-  ys-sorted = Sorted-take k (insert e xs) insert-is-sorted
+  ys-sorted = Pairwise-take Ahead k (insert e xs) insert-is-sorted
 
   ys-real : All (λ x. (x .node < n) × Taken S′ (x .node) × (x ≡ scored T (x .node))) ys
   unfolding ys

@@ -1,8 +1,11 @@
 -- Laws that belong to no one function.
 pub mod Order
 pub mod Sort
+pub mod OrderedLaws
 pub mod Top
 pub mod NextLaws
+pub mod HeadLaws
+pub mod TakenLaws
 pub mod TurnLaws
 pub mod Good
 pub mod Theorem

@@ -14,6 +14,7 @@ use Rattle.ego.specs.Limits.{limit}
 use Rattle.state.proofs.LimitLaws.{few-each}
 use Rattle.state.proofs.RefusalLaws.{sized-room}
 use Rattle.state.specs.Outcome.{lengths, stateLengths}
+use Rattle.state.specs.Sizes.{scratchBytes}
 use Rattle.state.specs.State.{graph, size, state, State}
 use Rattle.state.specs.Refusal.{crowdedBefore, everyone, listLength, refusal, scratchLength}
 use Rattle.topk.specs.Entries.{over}
@@ -22,7 +23,7 @@ use Rattle.topk.specs.inside.Turns.{Leaves, ListFits}
 
 -- no condition of a list of k entries applies
 pub record ListPassed (n : ℕ) (g : Graph) (k scratch : ℕ) : Type 0 where
-  pub scratchFits : n ≤ scratch
+  pub scratchFits : scratchBytes n ≤ scratch
   pub some : 0 < k
   pub within : k ≤ n
   pub few : (p : ℕ) → p < n → degree g n p ≤ limit
@@ -35,7 +36,7 @@ conditions-pass n g k scratch e =
     let c = passes (crowdedBefore g n everyone) [] (λ z. omega arith) (b .1) in
     let d = or-false-both (eqb k 0) (ltb n k) (b .0) in
     let some = eqb-false k 0 (d .0) in
-    record { scratchFits = ltb-false scratch n (a .0); some = omega arith; within = ltb-false n k (d .1); few = few-each g n (c .0) }
+    record { scratchFits = ltb-false scratch (scratchBytes n) (a .0); some = omega arith; within = ltb-false n k (d .1); few = few-each g n (c .0) }
 
 -- the state that a list of k entries leaves
 abbrev pub ranOf : State → ℕ → State
@@ -50,7 +51,7 @@ module _ (s : State) (C : List ℕ) where
   refusalOf k = refusal (lengths s ++ listConditions n (graph s) k (length C))
 
   abbrev pub acceptedOf : ℕ → List ℕ → Listed ℕ
-  acceptedOf k E = listing 0 (listOf s k .recomputed) (ranOf s k) (over (listOf s k .kept) E) (replicate n 0 ++ drop n C)
+  acceptedOf k E = listing 0 (listOf s k .recomputed) (ranOf s k) (over (listOf s k .kept) E) (replicate (scratchBytes n) 0 ++ drop (scratchBytes n) C)
 
   pub list-call-refused : (E : List ℕ) (k : ℕ) → wanted E ≡ k → (refusalOf k ≡ 0 → ⊥) → listCall s E C ≡ listing (refusalOf k) 0 s E C
   unfolding listCall
@@ -90,7 +91,7 @@ module _ (s : State) (C : List ℕ) where
       taken : refusalOf (wanted E) ≡ 0
       taken = sym is-refusal ∙ z
 
-      pub list-fits : (n ≤ length C) × ListFits n (s .edges) (s .marks) E (wanted E)
+      pub list-fits : (scratchBytes n ≤ length C) × ListFits n (s .edges) (s .marks) E (wanted E)
       list-fits =
           let p = call-passed (wanted E) taken in
           let f = lengths-fit s _ taken in
@@ -103,6 +104,6 @@ module _ (s : State) (C : List ℕ) where
             },
           )
 
-      pub list-accepted : {F M E′ C′ : List ℕ} {count : ℕ} → Leaves (listOf s (wanted E)) F M E E′ count → C′ ≡ replicate n 0
-          → listing 0 count (state (s .edges) F M) E′ (C′ ++ drop n C) ≡ listCall s E C
-      list-accepted h q = rw (h .figuresAre, h .marksAre, h .entriesAre, h .recomputedIs, q) (sym (call-taken E (wanted E) refl taken))
+      pub list-accepted : {used : ℕ} → used ≡ scratchBytes n → {F M E′ C′ : List ℕ} {count : ℕ} → Leaves (listOf s (wanted E)) F M E E′ count
+          → C′ ≡ replicate (scratchBytes n) 0 → listing 0 count (state (s .edges) F M) E′ (C′ ++ drop used C) ≡ listCall s E C
+      list-accepted u h q = rw (u, h .figuresAre, h .marksAre, h .entriesAre, h .recomputedIs, q) (sym (call-taken E (wanted E) refl taken))

@@ -1,17 +1,13 @@
 -- What comes next: the first by rank among the nodes that are not taken. Assumes nothing.
-use mathlib.Core.Bool.{false, true}
 use mathlib.Core.List.{List}
 use mathlib.Core.Logic.{inl, inr}
 use mathlib.Core.Path.{ap, refl, subst, sym, _∙_, _≡_}
-use Prim.Native.Nat.{_+_, _<_, suc, zero, ℕ, _≤_}
+use Prim.Native.Nat.{_<_, suc, zero, ℕ, _≤_}
 use native.Mathlib.Decide.{decLt, ℕ-discrete}
-use native.Mathlib.Nat.{le-refl}
-use native.Mathlib.Numerals.{add-one}
 use native.Mathlib.Omega.{arith}
 use borrow.Author.Tests.{eq-eqb, le-ltb, lt-ltb, ne-eqb}
 use lib.ListN.{getD, length}
 use Rattle.arith.proofs.Tests.{test}
-use Rattle.arith.specs.Rank.{before}
 use Rattle.topk.proofs.Order.{ahead-asym, ahead-behind, Behind, behind-self}
 use Rattle.topk.specs.Entries.{Entry, entry, ranksBefore}
 use Rattle.topk.specs.Steps.{at, bestBelow, better, Next, nothing, Progress, stored}
@@ -98,36 +94,6 @@ number-of {n} {p} h = elim (decLt p n) [
 -- so what is next fixes the number
 pub next-unique : {n p q : ℕ} → p ≤ n → q ≤ n → nextOf n p ≡ nextOf n q → p ≡ q
 next-unique {n} h l e = sym (number-of h) ∙ ap (numberOf n) e ∙ number-of l
-
-module _ (F S : List ℕ) (n best i : ℕ) where
-  pub better-skips : Taken S i → nextOf n best ≡ better (looking F S) (nextOf n best) i
-  unfolding better
-  better-skips h = skips (nextOf n best)
-    where
-      skips : (x : Next) → x ≡ better (looking F S) x i
-      skips nothing = rw (ne-eqb _ _ h)
-      skips (at b) = rw (ne-eqb _ _ h)
-
-  pub better-begins : Free S i → i < n → n ≤ best → nextOf n i ≡ better (looking F S) (nextOf n best) i
-  unfolding better
-  better-begins h l m = rw (next-of-none m, eq-eqb _ _ h) (next-of-node l)
-
-  pub better-moves : Free S i → i < n → best < n → before (getD F i 0) i (getD F best 0) best ≡ true → nextOf n i ≡ better (looking F S) (nextOf n best) i
-  unfolding better ranksBefore
-  better-moves h l m t = rw (next-of-node m, eq-eqb _ _ h, t) (next-of-node l)
-
-  pub better-stays : Free S i → best < n → before (getD F i 0) i (getD F best 0) best ≡ false → nextOf n best ≡ better (looking F S) (nextOf n best) i
-  unfolding better ranksBefore
-  better-stays h m t = rw (next-of-node m, eq-eqb _ _ h, t)
-
--- one turn of the loop, and its start
-pub best-none : (s : Progress) (n : ℕ) → nextOf n n ≡ bestBelow s 0
-unfolding bestBelow
-best-none s n = next-of-none (le-refl n)
-
-pub best-more : (s : Progress) (n i best r : ℕ) → nextOf n best ≡ bestBelow s i → nextOf n r ≡ better s (nextOf n best) i → nextOf n r ≡ bestBelow s (i + 1)
-unfolding bestBelow
-best-more s n i best r e f = rw add-one (f ∙ ap (λ (x : Next). better s x i) e)
 
 -- what is next goes by the figures and the taken nodes alone
 pub best-looking : (s : Progress) (i : ℕ) → bestBelow (looking (s .figures) (s .taken)) i ≡ bestBelow s i

@@ -1,35 +1,71 @@
 -- The place of an entry in a list. Assumes nothing.
-use mathlib.Core.Bool.{false, true}
+use mathlib.Core.Bool.{Bool, cond, false}
 use mathlib.Core.List.{_++_, [], List, _∷_}
 use mathlib.Core.Logic.{inl, inr}
-use mathlib.Core.Path.{ap, refl, sym, _≡_}
-use Prim.Native.Nat.{_*_, _+_, _<_, suc, suc-le-suc, zero-le, ℕ, _≤_}
+use mathlib.Core.Path.{ap, refl, sym, _∙_, _≡_}
+use Prim.Native.Nat.{_*_, _+_, _-_, _<_, suc, suc-le-suc, zero, zero-le, ℕ, _≤_}
+use native.Mathlib.Nat.{le-of-suc-le-suc, not-suc-le-zero}
 use native.Mathlib.Omega.{arith}
-use lib.ListN.{drop, drop-of-length-le, getD, length, length-append, length-drop, length-take, take}
-use lib.Seq.{drop-cons}
+use lib.ListN.{drop, getD, length, length-append, length-drop, length-take, take}
 use Rattle.arith.proofs.Tests.{test}
 use Rattle.arith.specs.Rank.{before}
 use Rattle.topk.proofs.LayoutLaws.{getD-entriesOf, length-entriesOf}
+use Rattle.topk.proofs.Order.{Ahead, Behind, behind-behind}
+use Rattle.topk.proofs.Sort.{All-at}
 use Rattle.topk.specs.Entries.{Entry, entry, ranksBefore, insert, keep, entriesOf}
-use Rattle.topk.specs.inside.Layout.{place}
+use Rattle.topk.specs.inside.Layout.{Ordered, place}
 
--- one more step of `place`
-module _ (e : Entry) (m i : ℕ) (E : List ℕ) (h : i < m) where
-  at-front : drop i (entriesOf m E) ≡ entry (getD E (2 * i) 0) (getD E (2 * i + 1) 0) ∷ drop (suc i) (entriesOf m E)
-  at-front = let l : i < length (entriesOf m E) = rw length-entriesOf h in rw (drop-cons (entriesOf m E) i (entry 0 0), getD-entriesOf m i E h)
+-- the place of e, by one entry that it is held against
 
-  pub place-here : before (e .figure) (e .node) (getD E (2 * i + 1) 0) (getD E (2 * i) 0) ≡ true → place e (drop i (entriesOf m E)) ≡ 0
-  unfolding place ranksBefore
-  place-here t = rw (at-front, t)
-
-  pub place-on : before (e .figure) (e .node) (getD E (2 * i + 1) 0) (getD E (2 * i) 0) ≡ false
-      → place e (drop i (entriesOf m E)) ≡ suc (place e (drop (suc i) (entriesOf m E)))
-  unfolding place ranksBefore
-  place-on t = rw (at-front, t)
-
-pub place-end : (e : Entry) (m i : ℕ) (E : List ℕ) → m ≤ i → place e (drop i (entriesOf m E)) ≡ 0
+place-most : (e : Entry) (xs : List Entry) (i : ℕ) → i < length xs → Ahead e (getD xs i (entry 0 0)) → place e xs ≤ i
 unfolding place
-place-end e m i E h = rw (drop-of-length-le (entriesOf m E) {i = i} (rw length-entriesOf h))
+place-most e [] i h t = zero-le
+place-most e (x ∷ xs) zero h t = rw t zero-le
+place-most e (x ∷ xs) (suc i) h t = elim (test (ranksBefore e x)) [
+  | inl u ↦ rw u zero-le
+  | inr u ↦ rw u (suc-le-suc (place-most e xs i (le-of-suc-le-suc h) t))
+]
+
+place-least : (e : Entry) (xs : List Entry) → Ordered xs → (i : ℕ) → i < length xs → Behind e (getD xs i (entry 0 0)) → i < place e xs
+unfolding place
+place-least e [] o i h t = absurd (not-suc-le-zero h)
+place-least e (x ∷ xs) o zero h t = rw t (suc-le-suc zero-le)
+place-least e (x ∷ xs) o (suc i) h t =
+    let l = le-of-suc-le-suc h in
+    let y = getD xs i (entry 0 0) in
+    let u : ranksBefore e x ≡ false = behind-behind x y e (All-at (λ z. Behind z x) xs i (entry 0 0) l (o .0)) t in
+    rw u (suc-le-suc (place-least e xs (o .1) i l t))
+
+-- A place lies between two ends, which are of at most m entries.
+pub record Between (m p low high : ℕ) : Type 0 where
+  pub least : low ≤ p
+  pub most : p ≤ high
+  pub within : high ≤ m
+
+-- The ends have come closer, and the place lies between them still.
+pub record Closer (m p low high low′ high′ : ℕ) : Type 0 where
+  pub between : Between m p low′ high′
+  pub fewer : high′ - low′ < high - low
+
+-- The entry at i says on which side of it the place lies: `first` is whether e ranks before it.
+pub place-closer : (e : Entry) (m : ℕ) (E : List ℕ) (i : ℕ) {low high low′ high′ : ℕ} {first : Bool} → Ordered (entriesOf m E)
+    → Between m (place e (entriesOf m E)) low high → low ≤ i → i < high
+    → first ≡ before (e .figure) (e .node) (getD E (2 * i + 1) 0) (getD E (2 * i) 0) → low′ ≡ cond first low (i + 1) → high′ ≡ cond first i high
+    → Closer m (place e (entriesOf m E)) low high low′ high′
+unfolding ranksBefore
+place-closer e m E i {low} {high} {first = first} o b hl hh f ql qh =
+    let xs = entriesOf m E in
+    let h : i < m = omega arith in
+    let l : i < length xs = rw length-entriesOf h in
+    let same : first ≡ ranksBefore e (getD xs i (entry 0 0)) = f ∙ rw (getD-entriesOf m i E h) in
+    elim (test first) [
+      | inl t ↦
+          let g = place-most e xs i l (sym same ∙ t) in
+          rw (ql, qh, t) (record { between = record { least = b .least; most = g; within = omega arith }; fewer = omega arith })
+      | inr t ↦
+          let g = place-least e xs o i l (sym same ∙ t) in
+          rw (ql, qh, t) (record { between = record { least = omega arith; most = b .most; within = b .within }; fewer = omega arith })
+    ]
 
 pub place-le : (e : Entry) (xs : List Entry) → place e xs ≤ length xs
 unfolding place

@@ -3,17 +3,14 @@ use mathlib.Core.Bool.{Bool, cond, false, true}
 use mathlib.Core.List.{[], List, _∷_}
 use mathlib.Core.Logic.{inl, inr, _⊎_, ⊎-elim}
 use mathlib.Core.Path.{ap, refl, subst, _∙_, _≡_}
-use Prim.Native.Nat.{_+_, min, suc, zero, ℕ, _≤_}
-use native.Mathlib.Nat.{le-of-suc-le-suc}
+use Prim.Native.Nat.{_+_, _<_, min, suc, zero, ℕ, _≤_}
+use native.Mathlib.Nat.{le-of-suc-le-suc, not-suc-le-zero}
 use native.Mathlib.Omega.{arith}
-use lib.ListN.{length, length-take, take}
+use lib.ListN.{getD, length, length-take, take}
 use Rattle.arith.proofs.Tests.{test}
 use Rattle.topk.proofs.Order.{Ahead, ahead-ahead, ahead-asym, Behind, behind-ahead, behind-self}
 use Rattle.topk.specs.Entries.{Entry, ranksBefore, insert, keep, lastOr}
-
-abbrev pub All : (Entry → Type 0) → List Entry → Type 0
-All P [] = Unit {0}
-All P (x ∷ xs) = P x × All P xs
+use Rattle.topk.specs.inside.Layout.{All, Pairwise}
 
 abbrev pub In : Entry → List Entry → Type 0
 In e [] = ⊥
@@ -21,8 +18,7 @@ In e (x ∷ xs) = (x ≡ e) ⊎ In e xs
 
 -- each entry ranks before all that follow it
 abbrev pub Sorted : List Entry → Type 0
-Sorted [] = Unit {0}
-Sorted (x ∷ xs) = All (Ahead x) xs × Sorted xs
+Sorted xs = Pairwise Ahead xs
 
 pub All-map : {P Q : Entry → Type 0} → ((x : Entry) → P x → Q x) → (xs : List Entry) → All P xs → All Q xs
 All-map f [] a = tt
@@ -36,15 +32,20 @@ pub All-of : (P : Entry → Type 0) (xs : List Entry) → ((x : Entry) → In x 
 All-of P [] f = tt
 All-of P (x ∷ xs) f = (f x (inl refl), All-of P xs (λ y i. f y (inr i)))
 
+pub All-at : (P : Entry → Type 0) (xs : List Entry) (i : ℕ) (d : Entry) → i < length xs → All P xs → P (getD xs i d)
+All-at P [] i d h a = absurd (not-suc-le-zero h)
+All-at P (x ∷ xs) zero d h a = a .0
+All-at P (x ∷ xs) (suc i) d h a = All-at P xs i d (le-of-suc-le-suc h) (a .1)
+
 pub All-take : (P : Entry → Type 0) (k : ℕ) (xs : List Entry) → All P xs → All P (take k xs)
 All-take P zero xs a = tt
 All-take P (suc k) [] a = tt
 All-take P (suc k) (x ∷ xs) a = (a .0, All-take P k xs (a .1))
 
-pub Sorted-take : (k : ℕ) (xs : List Entry) → Sorted xs → Sorted (take k xs)
-Sorted-take zero xs s = tt
-Sorted-take (suc k) [] s = tt
-Sorted-take (suc k) (x ∷ xs) s = (All-take (Ahead x) k xs (s .0), Sorted-take k xs (s .1))
+pub Pairwise-take : (R : Entry → Entry → Type 0) (k : ℕ) (xs : List Entry) → Pairwise R xs → Pairwise R (take k xs)
+Pairwise-take R zero xs s = tt
+Pairwise-take R (suc k) [] s = tt
+Pairwise-take R (suc k) (x ∷ xs) s = (All-take (R x) k xs (s .0), Pairwise-take R k xs (s .1))
 
 -- a split on the test, with what it says
 split : (C : List Entry → Type 0) (e x : Entry) (l r : List Entry) → (Ahead e x → C l) → (Behind e x → C r) → C (cond (ranksBefore e x) l r)
@@ -59,12 +60,17 @@ unfolding insert
 insert-all P e [] p a = (p, tt)
 insert-all P e (x ∷ xs) p a = split (All P) e x (e ∷ x ∷ xs) (x ∷ insert e xs) (λ b. (p, a)) (λ n. (a .0, insert-all P e xs p (a .1)))
 
-pub insert-sorted : (e : Entry) (xs : List Entry) → All (λ x. Behind e x → Ahead x e) xs → Sorted xs → Sorted (insert e xs)
+-- R is kept as e is put in: e has it to each entry that it ranks before and to all that such an entry has it to, and the others have it to e
+pub insert-pairwise : (R : Entry → Entry → Type 0) (e : Entry) → ((x : Entry) → Ahead e x → R e x) → ((x y : Entry) → Ahead e x → R x y → R e y)
+    → (xs : List Entry) → All (λ x. Behind e x → R x e) xs → Pairwise R xs → Pairwise R (insert e xs)
 unfolding insert
-insert-sorted e [] a s = (tt, tt)
-insert-sorted e (x ∷ xs) a s =
-    split (Sorted) e x (e ∷ x ∷ xs) (x ∷ insert e xs) (λ b. ((b, All-map (λ y. ahead-ahead e x y b) xs (s .0)), s))
-    (λ n. (insert-all (Ahead x) e xs (a .0 n) (s .0), insert-sorted e xs (a .1) (s .1)))
+insert-pairwise R e f g [] a s = (tt, tt)
+insert-pairwise R e f g (x ∷ xs) a s =
+    split (Pairwise R) e x (e ∷ x ∷ xs) (x ∷ insert e xs) (λ b. ((f x b, All-map (λ y. g x y b) xs (s .0)), s))
+    (λ n. (insert-all (R x) e xs (a .0 n) (s .0), insert-pairwise R e f g xs (a .1) (s .1)))
+
+pub insert-sorted : (e : Entry) (xs : List Entry) → All (λ x. Behind e x → Ahead x e) xs → Sorted xs → Sorted (insert e xs)
+insert-sorted e xs a s = insert-pairwise Ahead e (λ x b. b) (λ x y. ahead-ahead e x y) xs a s
 
 pub in-insert : (e : Entry) (xs : List Entry) → In e (insert e xs)
 unfolding insert

@@ -17,6 +17,7 @@ use Rattle.state.proofs.Spare.{alike-by, alike-links, alike-nodes, same-refl, s
 use Rattle.state.specs.Marks.{markBits, withMark}
 use Rattle.state.specs.Outcome.{lengths}
 use Rattle.state.specs.Refusal.{everyone, refusal}
+use Rattle.state.specs.Sizes.{scratchBytes}
 use Rattle.state.specs.Spare.{Alike, SameBits, SameSpare, SpareKept}
 use Rattle.state.specs.State.{graph, size, State}
 use Rattle.topk.proofs.NextLaws.{is-best, best-looking, IsBest}
@@ -153,7 +154,7 @@ module _ {s t : State} (h : Alike s t) (entries scratch : List ℕ) where
         recomputed = sym (ap (λ u. u .recomputed) same);
         after = alike-by _ _ (size s) (runs .nodes) (h .edges) (sym (ap (λ u. u .figures) same)) (runs .marks);
         entries = sym (ap (λ u. over (u .kept) entries) same);
-        scratch = ap (λ n. replicate n 0 ++ drop n scratch) (alike-nodes h);
+        scratch = ap (λ n. replicate (scratchBytes n) 0 ++ drop (scratchBytes n) scratch) (alike-nodes h);
       }
 
   abbrev refusalOf : State → ℕ

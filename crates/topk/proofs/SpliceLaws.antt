@@ -1,94 +1,79 @@
--- Two numbers spliced into a buffer by a loop that shifts the rest on, and what that makes of the entries. Assumes nothing.
-use mathlib.Core.List.{_++_, append-assoc, List, _∷_}
+-- Two numbers spliced into a buffer whose numbers are moved on, and what that makes of the entries. Assumes nothing.
+use mathlib.Core.List.{_++_, [], append-assoc, List, _∷_}
 use mathlib.Core.Path.{ap, sym, _∙_, _≡_}
 use Prim.Native.Nat.{_*_, _+_, _-_, _<_, min, suc, ℕ, _≤_}
 use native.Mathlib.Decide.{decLe}
-use native.Mathlib.Nat.{add-zero}
 use native.Mathlib.Numerals.{add-one}
 use native.Mathlib.Omega.{arith}
-use lib.ListN.{drop, getD, length, length-append, length-drop, set, take, take-append-drop}
-use lib.Seq.{drop-append-le, drop-cons, getD-append-add, getD-drop, length-take-le, set-at, take-all, take-append-le, take-at, take-length, take-suc}
+use lib.ListN.{drop, getD, length, length-append, length-take, List·getD-append, set, take, take-append-drop}
+use lib.Seq.{drop-append-le, drop-at, drop-cons, getD-take, length-take-le, set-at, sets-eq, take-all, take-append-add, take-append-le, take-at, take-length, take-suc, take-take}
 use Rattle.arith.specs.Lists.{count}
 use Rattle.topk.proofs.LayoutLaws.{entries-flat, flat-append, flat-drop, flat-take, length-entriesOf, length-flat}
 use Rattle.topk.proofs.PlaceLaws.{keep-put, length-put-in, place-le, put-in}
 use Rattle.topk.proofs.Sort.{length-keep}
 use Rattle.topk.specs.Entries.{Entry, flat, keep, entriesOf}
-use Rattle.topk.specs.inside.Layout.{entryPutIn, Kept, mixed, place, spliced}
+use Rattle.topk.specs.inside.Layout.{entryPutIn, Kept, mixed, movedOn, place, spliced}
 
-pub mixed-suc : (X E : List ℕ) (n : ℕ) → n < length X → n < length E → set (mixed X E n) n (getD X n 0) ≡ mixed X E (suc n)
-mixed-suc X E n hx he =
-    let l : n ≤ length X = omega arith in
-    rw (drop-cons E n 0, take-suc X n 0, append-assoc) (set-at (take n X) (getD E n 0) (drop (suc n) E) (getD X n 0) n (length-take-le n X l))
+-- numbers moved on by two, from the back
 
-pub mixed-two : (X E : List ℕ) (i : ℕ) → 2 * i + 1 < length X → 2 * i + 1 < length E →
-    set (set (mixed X E (2 * i)) (2 * i) (getD X (2 * i) 0)) (2 * i + 1) (getD X (2 * i + 1) 0) ≡ mixed X E (2 * (i + 1))
-mixed-two X E i hx he =
-    let e : 2 * (i + 1) ≡ suc (suc (2 * i)) = omega arith in
-    let ax : 2 * i < length X = omega arith in
-    let ae : 2 * i < length E = omega arith in
-    let bx : suc (2 * i) < length X = omega arith in
-    let be : suc (2 * i) < length E = omega arith in
-    rw (mixed-suc X E (2 * i) ax ae, e, add-one (2 * i)) (mixed-suc X E (suc (2 * i)) bx be)
+pub moved-none : (E : List ℕ) (t : ℕ) → movedOn E t t ≡ E
+unfolding movedOn
+moved-none E t = let e : t - t ≡ 0 = omega arith in rw e (take-append-drop (t + 2) E)
 
-pub mixed-read : (X E : List ℕ) (n m : ℕ) → n ≤ length X → n ≤ m → getD (mixed X E n) m 0 ≡ getD E m 0
-mixed-read X E n m h l =
-    let e : m ≡ n + (m - n) = omega arith in
-    ap (λ (k : ℕ). getD (mixed X E n) k 0) e
-    ∙ ap (λ (k : ℕ). getD (mixed X E n) (k + (m - n)) 0) (sym (length-take-le n X h))
-    ∙ getD-append-add (take n X) (drop n E) (m - n) 0
-    ∙ getD-drop n E (m - n) 0
-    ∙ ap (λ (k : ℕ). getD E k 0) (sym e)
+moved-more : (E : List ℕ) (j t : ℕ) → j < t → t + 2 ≤ length E → set (movedOn E (j + 1) t) (j + 2) (getD (movedOn E (j + 1) t) j 0) ≡ movedOn E j t
+unfolding movedOn
+moved-more E j t h l =
+    let lj : j < length E = omega arith in
+    let lh : j + 2 < length E = omega arith in
+    let R = take (t - suc j) (drop (suc j) E) ++ drop (t + 2) E in
+    let a : j + 1 + 2 ≡ suc (j + 2) = omega arith in
+    let b : t - j ≡ suc (t - suc j) = omega arith in
+    let c : j < length (take (suc (j + 2)) E) = rw length-take (omega arith) in
+    let r : getD (take (suc (j + 2)) E ++ R) j 0 ≡ getD E j 0 =
+    List·getD-append (take (suc (j + 2)) E) R 0 j c ∙ getD-take (suc (j + 2)) E j 0 (omega arith) in
+    rw (a, add-one j, r, take-suc E (j + 2) 0, append-assoc, b, drop-cons E j 0)
+    (set-at (take (j + 2) E) (getD E (j + 2) 0) R (getD E j 0) (j + 2) (length-take-le (j + 2) E (omega arith)))
 
--- what was spliced in, and what stands after it
-module _ (E : List ℕ) (a p f : ℕ) (h : a ≤ length E) where
-  pub length-spliced : length (spliced E a p f) ≡ length E + 2
+-- a turn of the loop that moves them, of which the number at j is the next
+pub moved-turn : (E : List ℕ) {N : List ℕ} (j t : ℕ) → 0 < j → j ≤ t → t + 2 ≤ length E → N ≡ movedOn E j t
+    → set N (j - 1 + 2) (getD N (j - 1) 0) ≡ movedOn E (j - 1) t
+moved-turn E j t h l r e =
+    let i : j ≡ j - 1 + 1 = omega arith in
+    rw (e ∙ ap (λ (m : ℕ). movedOn E m t) i) (moved-more E (j - 1) t (omega arith) r)
+
+module _ (E : List ℕ) (s p f : ℕ) where
+  -- a node and its figure put where numbers were moved on from
+  moved-put : (t : ℕ) → s ≤ t → t + 2 ≤ length E → set (set (movedOn E s t) s p) (s + 1) f ≡ mixed (spliced E s p f) E (t + 2)
+  unfolding movedOn spliced
+  moved-put t h l =
+      let R = take (t - s) (drop s E) ++ drop (t + 2) E in
+      let M = take (s + 2) E ++ R in
+      let w : length (take (s + 2) E) ≡ s + 2 = length-take-le (s + 2) E (omega arith) in
+      let n : s + 2 ≤ length M = rw length-append (omega arith) in
+      let front : take s M ≡ take s E = take-append-le s (take (s + 2) E) R (omega arith) ∙ take-take s (s + 2) E (omega arith) in
+      let back : drop (s + 2) M ≡ R = drop-at (take (s + 2) E) R (s + 2) w in
+      let q : t + 2 ≡ length (take s E) + suc (suc (t - s)) = omega (arith, length-take-le s E (omega arith)) in
+      rw (add-one s)
+      (sets-eq (p ∷ f ∷ []) M s n
+      ∙ rw (front, back, append-assoc)
+      (sym (ap (λ z. z ++ drop (t + 2) E) (ap (λ m. take m (spliced E s p f)) q ∙ take-append-add (take s E) (p ∷ f ∷ drop s E) (suc (suc (t - s))))
+      ∙ append-assoc (take s E) (p ∷ f ∷ take (t - s) (drop s E)) (drop (t + 2) E))))
+
+  spliced-before : s ≤ length E → mixed (spliced E s p f) E s ≡ E
   unfolding spliced
-  length-spliced = rw length-append (rw (length-take-le a E h, length-drop) (omega arith))
+  spliced-before h = rw (take-at (take s E) (p ∷ f ∷ drop s E) s (length-take-le s E h)) (take-append-drop s E)
 
-  -- an index from the seam on
-  seam : (j : ℕ) → getD (spliced E a p f) (a + j) 0 ≡ getD (p ∷ f ∷ drop a E) j 0
-  unfolding spliced
-  seam j =
-      ap (λ (m : ℕ). getD (spliced E a p f) (m + j) 0) (sym (length-take-le a E h)) ∙ getD-append-add (take a E) (p ∷ f ∷ drop a E) j 0
+-- an entry put in at a place, of r entries then
+module _ (E : List ℕ) (a p f r : ℕ) where
+  -- where the entries from there on were moved on
+  pub put-among : a < r → 2 * r ≤ length E → set (set (movedOn E (2 * a) (2 * r - 2)) (2 * a) p) (2 * a + 1) f ≡ entryPutIn E a p f r
+  put-among h l =
+      let e : 2 * r - 2 + 2 ≡ 2 * r = omega arith in
+      moved-put E (2 * a) p f (2 * r - 2) (omega arith) (omega arith) ∙ ap (mixed (spliced E (2 * a) p f) E) e
 
-  pub spliced-node : getD (spliced E a p f) a 0 ≡ p
-  spliced-node = ap (λ (m : ℕ). getD (spliced E a p f) m 0) (sym (add-zero a)) ∙ seam 0
-
-  pub spliced-figure : getD (spliced E a p f) (a + 1) 0 ≡ f
-  spliced-figure = seam 1
-
-  pub spliced-after : (n : ℕ) → a ≤ n → getD (spliced E a p f) (n + 2) 0 ≡ getD E n 0
-  spliced-after n l =
-      let e : n + 2 ≡ a + suc (suc (n - a)) = omega arith in
-      let g : a + (n - a) ≡ n = omega arith in
-      rw e (seam (suc (suc (n - a))) ∙ getD-drop a E (n - a) 0 ∙ ap (λ (m : ℕ). getD E m 0) g)
-
-  pub spliced-before : mixed (spliced E a p f) E a ≡ E
-  unfolding spliced
-  spliced-before = rw (take-at (take a E) (p ∷ f ∷ drop a E) a (length-take-le a E h)) (take-append-drop a E)
-
--- one turn of the shift: what lies in the buffer, and what is carried
-module _ (E : List ℕ) (a i p f : ℕ) (la : a ≤ i) (li : 2 * i + 1 < length E) where
-  abbrev X : List ℕ
-  X = spliced E (2 * a) p f
-
-  long : length X ≡ length E + 2
-  long = let h : 2 * a ≤ length E = omega arith in length-spliced E (2 * a) p f h
-
-  pub shift-put : set (set (mixed X E (2 * i)) (2 * i) (getD X (2 * i) 0)) (2 * i + 1) (getD X (2 * i + 1) 0) ≡ mixed X E (2 * (i + 1))
-  shift-put = mixed-two X E i (omega (arith, long)) li
-
-  pub shift-node : getD (mixed X E (2 * i)) (2 * i) 0 ≡ getD X (2 * (i + 1)) 0
-  shift-node =
-      let h : 2 * a ≤ length E = omega arith in
-      let e : 2 * (i + 1) ≡ 2 * i + 2 = omega arith in
-      rw (e, spliced-after E (2 * a) p f h (2 * i) (omega arith)) (mixed-read X E (2 * i) (2 * i) (omega (arith, long)) (omega arith))
-
-  pub shift-figure : getD (mixed X E (2 * i)) (2 * i + 1) 0 ≡ getD X (2 * (i + 1) + 1) 0
-  shift-figure =
-      let h : 2 * a ≤ length E = omega arith in
-      let e : 2 * (i + 1) + 1 ≡ (2 * i + 1) + 2 = omega arith in
-      rw (e, spliced-after E (2 * a) p f h (2 * i + 1) (omega arith)) (mixed-read X E (2 * i) (2 * i + 1) (omega (arith, long)) (omega arith))
+  -- past the last nothing changes
+  pub put-past : a ≡ r → 2 * r ≤ length E → E ≡ entryPutIn E a p f r
+  put-past e l = let h : 2 * a ≤ length E = omega arith in sym (spliced-before E (2 * a) p f h) ∙ ap (λ (m : ℕ). entryPutIn E a p f m) e
 
 take-min : (k : ℕ) (xs : List Entry) → take (min (length xs) k) xs ≡ take k xs
 take-min k xs = elim (decLe k (length xs)) [

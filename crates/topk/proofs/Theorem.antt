@@ -19,12 +19,13 @@ use Rattle.arith.proofs.Counts.{count-all, count-full, count-none}
 use Rattle.topk.proofs.Good.{Good, isRecomputed, isTaken, start-good, took-count, took-good}
 use Rattle.topk.proofs.NextLaws.{figureOf, Free, IsBest, next-best, Taken}
 use Rattle.topk.proofs.Order.{Ahead, ahead-behind, Behind, behind-by}
-use Rattle.topk.proofs.Sort.{All, All-map, before-last, In}
+use Rattle.topk.proofs.Sort.{All-map, before-last, In}
 use Rattle.topk.proofs.Top.{First, firsts-unique, length-top, Node, scored, top-first}
 use Rattle.topk.proofs.TurnLaws.{still}
 use Rattle.topk.specs.Entries.{Entry, entry, ranksBefore, lastEntry, stops}
 use Rattle.state.specs.inside.Honest.{Honest}
 use Rattle.topk.specs.Ranking.{ranking, worksOut}
+use Rattle.topk.specs.inside.Layout.{All}
 use Rattle.topk.specs.inside.Right.{Right}
 use Rattle.topk.specs.Steps.{at, allSteps, Next, nothing, Progress, atStart, step, stepAt, steps, stored, took}
 use Rattle.topk.specs.inside.Next.{next, stopped, stoppedAt}

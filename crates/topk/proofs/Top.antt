@@ -8,9 +8,10 @@ use native.Mathlib.Decide.{ℕ-discrete}
 use native.Mathlib.Omega.{arith}
 use lib.ListN.{length, length-take, take}
 use Rattle.topk.proofs.Order.{Ahead, ahead-asym, Behind, behind-flip, behind-self}
-use Rattle.topk.proofs.Sort.{All, All-in, All-map, All-of, All-take, In, in-insert, in-old, in-or-out, insert-all, insert-sorted, length-insert, Sorted, Sorted-take}
+use Rattle.topk.proofs.Sort.{All-in, All-map, All-of, All-take, In, in-insert, in-old, in-or-out, insert-all, insert-sorted, length-insert, Pairwise-take, Sorted}
 use Rattle.topk.specs.Entries.{Entry, entry, insert}
 use Rattle.topk.specs.Ranking.{ranking}
+use Rattle.topk.specs.inside.Layout.{All}
 
 -- xs has the first of the entries that P holds of: it is sorted, and each entry outside it ranks after all of it
 pub record First (P : Entry → Type 0) (xs : List Entry) : Type 0 where
@@ -85,7 +86,7 @@ ranking-has T (suc n) q l = go (ℕ-discrete q n) (ranking-has T n q)
 
 pub top-first : (T : ℕ → ℕ) (k n : ℕ) → First (Node T n) (take k (ranking T n))
 top-first T k n = record {
-  sorted = Sorted-take k (ranking T n) (ranking-sorted T n);
+  sorted = Pairwise-take Ahead k (ranking T n) (ranking-sorted T n);
   real = All-take (Node T n) k (ranking T n) (ranking-real T n);
   rest = λ y p. subst (λ (z : Entry). In z (take k (ranking T n)) ⊎ All (λ x. Ahead x z) (take k (ranking T n))) (sym (p .1))
       (⊎-elim (λ i. inl i) (λ o. inr (o .1)) (in-or-out k (ranking T n) (scored T (y .node)) (ranking-sorted T n) (ranking-has T n (y .node) (p .0))));

@@ -6,6 +6,7 @@ use lib.Dec.{eqb}
 use lib.ListN.{length, drop, replicate}
 use Rattle.ego.specs.Graph.{Graph}
 use Rattle.ego.specs.Score.{score}
+use Rattle.state.specs.Sizes.{scratchBytes}
 use Rattle.state.specs.State.{state, State, size, graph}
 use Rattle.state.specs.Refusal.{Condition, refusal, scratchLength, listLength, crowdedBefore, everyone}
 use Rattle.state.specs.Outcome.{lengths}
@@ -36,11 +37,12 @@ listConditions n g k scratch = scratchLength n scratch ∷ listLength n k ∷ cr
 abbrev pub listOf : State → ℕ → Progress
 listOf s k = allSteps (score (graph s) (size s)) k (s .figures) (s .marks)
 
--- what an accepted list leaves: the kept entries first and a number beyond them as it was; scratch bytes 0 to n - 1 are 0, the others as before
+-- what an accepted list leaves: the kept entries first and a number beyond them as it was; the bytes of the scratch that n bits take are 0, the others as before
 unfoldable pub acceptedList : State → List ℕ → List ℕ → Listed ℕ
 acceptedList s entries scratch =
     let run = listOf s (wanted entries) in
-    listing 0 (run .recomputed) (state (s .edges) (run .figures) (run .marks)) (over (run .kept) entries) (replicate (size s) 0 ++ drop (size s) scratch)
+    listing 0 (run .recomputed) (state (s .edges) (run .figures) (run .marks)) (over (run .kept) entries)
+    (replicate (scratchBytes (size s)) 0 ++ drop (scratchBytes (size s)) scratch)
 
 unfoldable pub listCall : State → List ℕ → List ℕ → Listed ℕ
 listCall s entries scratch =

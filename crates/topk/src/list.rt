@@ -1,10 +1,11 @@
 // The list call over plain buffers.
 use crate::turns::run;
 use packed::bits::zero;
-use state::crowded::any_over;
+use state::crowded::any_strip_over;
 use state::refusal::CROWDED_BEFORE;
 use state::refusal::ENTRY_COUNT;
 use state::refusal::SCRATCH;
+use state::scratch::scratch_bytes;
 use state::sizes::state_refusal;
 ghost use mathlib.Core.List.{_++_};
 ghost use mathlib.Core.Path.{_≡_};
@@ -12,6 +13,7 @@ ghost use lib.ListN.{length, replicate};
 ghost use Rattle.packed.specs.Edges.{edge};
 ghost use Rattle.state.specs.Outcome.{stateLengths};
 ghost use Rattle.state.specs.Refusal.{refusal};
+ghost use Rattle.state.specs.Sizes.{scratchBytes};
 ghost use Rattle.topk.specs.List.{listCall, listConditions};
 ghost use Rattle.topk.specs.ListLent.{atListEntry, atListExit};
 ghost use Rattle.topk.specs.inside.Turns.{fitsList, leavesList};
@@ -30,7 +32,7 @@ fn list_refusal(edges: &[u8], n: usize, marks: usize, k: usize, scratch: usize) 
     if size != 0 {
         return size;
     }
-    if scratch < n {
+    if scratch < scratch_bytes(n) {
         return SCRATCH;
     }
     if k == 0 {
@@ -39,13 +41,13 @@ fn list_refusal(edges: &[u8], n: usize, marks: usize, k: usize, scratch: usize) 
     if n < k {
         return ENTRY_COUNT;
     }
-    if any_over(edges, n) {
+    if any_strip_over(edges, n) {
         return CROWDED_BEFORE;
     }
     0
 }
 
-// The list, where nothing turns it back. The scratch has a byte for each node, whatever it holds, and is all 0 afterwards.
+// The list, where nothing turns it back. The scratch has a bit for each node, whatever it holds, and is all 0 afterwards.
 fn accepted(
     edges: &[u8],
     figures: &mut [u64],
@@ -54,8 +56,8 @@ fn accepted(
     scratch: &mut [u8],
     k: usize,
 ) -> u64
-    requires { ⌜ fitsList edges figures marks entries k × (length (now scratch) ≡ length (now figures)) ⌝ }
-    ensures { λ r. ⌜ leavesList edges figures marks entries k r × (now (scratch .exit) ≡ replicate (length (now (figures .entry))) 0) ⌝ }
+    requires { ⌜ fitsList edges figures marks entries k × (length (now scratch) ≡ scratchBytes (length (now figures))) ⌝ }
+    ensures { λ r. ⌜ leavesList edges figures marks entries k r × (now (scratch .exit) ≡ replicate (scratchBytes (length (now (figures .entry)))) 0) ⌝ }
 {
     zero(scratch);
     let recomputed = run(edges, figures, marks, scratch, entries, k);
@@ -63,7 +65,7 @@ fn accepted(
     recomputed
 }
 
-// The list: the best k nodes go to the first k entries, k being half the entries' length. The scratch has a byte for each node or more.
+// The list: the best k nodes go to the first k entries, k being half the entries' length. The scratch has a bit for each node, in whole bytes, or more.
 pub fn list(
     edges: &[u8],
     figures: &mut [u64],
@@ -82,7 +84,8 @@ pub fn list(
             recomputed: 0,
         };
     }
-    let recomputed = accepted(edges, figures, marks, entries, &mut scratch[..n], k);
+    let used = scratch_bytes(n);
+    let recomputed = accepted(edges, figures, marks, entries, &mut scratch[..used], k);
     Answer {
         refusal: 0,
         recomputed,

@@ -14,7 +14,8 @@ use Rattle.packed.specs.inside.Room.{Room}
 use Rattle.state.specs.Lent.{atEntry, Buffer, Moments}
 use Rattle.state.specs.Marks.{markBytes, stale}
 use Rattle.topk.specs.Entries.{entriesOf, over}
-use Rattle.topk.specs.inside.Next.{stopped}
+use Rattle.topk.specs.inside.Layout.{Ordered}
+use Rattle.topk.specs.inside.Next.{HeadsAre, Lookable, lookingIn, stopped, takenOf}
 use Rattle.topk.specs.List.{listOf}
 use Rattle.topk.specs.Steps.{Progress, step}
 use Rattle.topk.specs.declared.turns.Turn.{Turn}
@@ -38,20 +39,22 @@ pub record ListFits (n : ℕ) (edges marks entries : List ℕ) (k : ℕ) : Type 
   pub entriesFit : 2 * k ≤ length entries
   pub some : 0 < k
 
--- what a turn asks besides: at most k are kept, and not every node was recomputed
-pub record TurnFits (n : ℕ) (edges marks taken entries : List ℕ) (k kept recomputed : ℕ) : Type 0 where
-  pub list : ListFits n edges marks entries k
-  pub takenFit : length taken ≡ n
+-- what a turn asks besides: a bit for each node, the heads of the blocks, at most k kept, in order, and not every node recomputed
+pub record TurnFits (figures edges marks taken entries heads : List ℕ) (k kept recomputed : ℕ) : Type 0 where
+  pub list : ListFits (length figures) edges marks entries k
+  pub lookable : Lookable figures taken
+  pub headsAre : HeadsAre (lookingIn figures taken) heads
   pub fit : kept ≤ k
-  pub less : recomputed < n
+  pub ordered : Ordered (entriesOf kept entries)
+  pub less : recomputed < length figures
 
 -- the same, of what is lent
 abbrev pub fitsList : Buffer → Buffer → Buffer → Buffer → ℕ → Type 0
 fitsList edges figures marks entries k = ListFits (length (now figures)) (now edges) (now marks) (now entries) k
 
-abbrev pub fitsTurn : Buffer → Buffer → Buffer → Buffer → Buffer → ℕ → ℕ → ℕ → Type 0
-fitsTurn edges figures marks taken entries k kept recomputed =
-    TurnFits (length (now figures)) (now edges) (now marks) (now taken) (now entries) k kept recomputed
+abbrev pub fitsTurn : Buffer → Buffer → Buffer → Buffer → Buffer → List ℕ → ℕ → ℕ → ℕ → Type 0
+fitsTurn edges figures marks taken entries heads k kept recomputed =
+    TurnFits (now figures) (now edges) (now marks) (now taken) (now entries) heads k kept recomputed
 
 -- ---- one turn
 
@@ -68,21 +71,22 @@ worthOf edges figures marks p recomputed = record {
 -- the list as it lies in the buffers
 abbrev pub progressOf : List ℕ → List ℕ → List ℕ → List ℕ → ℕ → ℕ → Progress
 progressOf figures marks taken entries kept recomputed =
-    record { figures = figures; marks = marks; taken = taken; kept = entriesOf kept entries; recomputed = recomputed }
+    record { figures = figures; marks = marks; taken = takenOf (length figures) taken; kept = entriesOf kept entries; recomputed = recomputed }
 
--- the buffers hold the list s; the entries lie over what was there
-pub record Holds (s : Progress) (figures marks taken before entries : List ℕ) (kept recomputed : ℕ) : Type 0 where
+-- the buffers and the heads hold the list s; the entries lie over what was there
+pub record Holds (s : Progress) (figures marks taken before entries heads : List ℕ) (kept recomputed : ℕ) : Type 0 where
   pub figuresAre : figures ≡ s .figures
   pub marksAre : marks ≡ s .marks
-  pub takenAre : taken ≡ s .taken
+  pub takenAre : takenOf (length figures) taken ≡ s .taken
   pub entriesAre : entries ≡ over (s .kept) before
+  pub headsAre : HeadsAre (lookingIn figures taken) heads
   pub keptIs : kept ≡ length (s .kept)
   pub recomputedIs : recomputed ≡ s .recomputed
 
 -- a turn of the list s says whether that has stopped, and leaves the list one step on
 pub record Turned (truth : ℕ → ℕ) (k : ℕ) (s : Progress) (t : Turn) (figures marks taken before entries : List ℕ) : Type 0 where
   pub stops : t .stopped ≡ stopped k s
-  pub holds : Holds (step truth k s) figures marks taken before entries (t .kept) (t .recomputed)
+  pub holds : Holds (step truth k s) figures marks taken before entries (t .heads) (t .kept) (t .recomputed)
 
 abbrev pub turned : Moments → Moments → Moments → Moments → Moments → ℕ → ℕ → ℕ → Turn → Type 0
 turned edges figures marks taken entries k kept recomputed t =

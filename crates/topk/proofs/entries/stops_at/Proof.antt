@@ -18,7 +18,7 @@ returns c =
     let e : a .kept ≡ a .k = c .before .before .if1 .taken in
     let l : 0 < a .kept = omega arith in
     c .ranks-before .ensures
-    ∙ rw (c .before .entry-at .ensures .0, c .before .entry-at .ensures .1) (sym (stops-full (a .kept) (now (a .entries)) (entry (a .node) (a .figure)) l))
+    ∙ rw (c .before .entry-at .ensures) (sym (stops-full (a .kept) (now (a .entries)) (entry (a .node) (a .figure)) l))
     ∙ ap (λ (k : ℕ). stops k (entry (a .node) (a .figure)) (entriesOf (a .kept) (now (a .entries)))) e
 
 returns-2 : tie.Need-returns-2

@@ -5,6 +5,7 @@ use native.Mathlib.Omega.{arith}
 use borrow.Author.Needs.{needs}
 use denote.Ref.{now}
 use lib.ListN.{length, replicate}
+use Rattle.state.specs.Sizes.{scratchBytes}
 use Rattle.topk.proofs.list.accepted.Statement.{statement}
 use Rattle.topk.proofs.list.accepted.Tie as tie
 
@@ -28,8 +29,8 @@ returns c =
     let z = c .before .before in
     let d = ran z in
     let s = start (cleared (d .before)) in
-    let n : length (d .run .last .1 .1 .1 .0) ≡ length (now (s .args .figures)) = omega (arith, s .pre .1) in
-    (d .run .ensures .0, z .zero2 .ensures ∙ ap (λ (m : ℕ). replicate m 0) n)
+    let n : length (d .run .last .1 .1 .1 .0) ≡ scratchBytes (length (now (s .args .figures))) = omega (arith, s .pre .1) in
+    (d .run .ensures, z .zero2 .ensures ∙ ap (λ (m : ℕ). replicate m 0) n)
 
 pub accepted-spec : {M : Type 1} → statement M
 accepted-spec =

@@ -1,33 +1,39 @@
 -- `topk::next::better` meets its contract. Assumes nothing.
-use mathlib.Core.Path.{sym, _∙_}
+use mathlib.Core.Path.{ap, sym, _∙_}
 use native.Mathlib.Omega.{arith}
-use borrow.Author.Needs.{needs}
-use Rattle.topk.proofs.NextLaws.{better-begins, better-moves, better-skips, better-stays}
+use denote.Ref.{now}
+use lib.ListN.{length}
+use Rattle.topk.proofs.HeadLaws.{better-first, better-skips}
+use Rattle.topk.proofs.NextLaws.{next-of-node}
+use Rattle.topk.proofs.TakenLaws.{bit-free, bit-taken}
+use Rattle.topk.specs.inside.Next.{firstOf, lookingIn, nextOf}
 use Rattle.topk.proofs.next.better.Statement.{statement}
 use Rattle.topk.proofs.next.better.Tie as tie
 
--- a node that is not taken
-abbrev free : tie.After-ranks-before → tie.Else1
-free c = c .before .before .before .before
+abbrev start : tie.After-get → tie.Start
+start c = c .before .before .before
 
 returns : tie.Need-returns
-returns c = record { within = omega arith; named = better-skips _ _ _ _ _ (c .if1 .taken) }
+returns c =
+    let s = start (c .before) in
+    let taken = bit-taken _ _ _ (s .pre .0) (sym (c .before .get .ensures) ∙ c .if1 .taken) in
+    record { within = omega arith; named = sym (better-skips _ _ _ taken) }
 
 returns-2 : tie.Need-returns-2
-returns-2 c = record { within = omega arith; named = better-begins _ _ _ _ _ (c .before .if1 .left) (omega arith) (c .if2 .taken) }
-
-returns-3 : tie.Need-returns-3
-returns-3 c =
-    let t = sym (c .before .ranks-before .ensures) ∙ c .if3 .taken in
-    record { within = omega arith; named = better-moves _ _ _ _ _ (free (c .before) .if1 .left) (omega arith) (omega arith) t }
-
-returns-4 : tie.Need-returns-4
-returns-4 c =
-    let t = sym (c .before .ranks-before .ensures) ∙ c .if3 .left in
-    record { within = omega arith; named = better-stays _ _ _ _ _ (free (c .before) .if1 .left) (omega arith) t }
+returns-2 c =
+    let b = c .before in
+    let s = start (b .before) in
+    let F = now (s .args .figures) in
+    let free = bit-free (length F) _ _ (s .pre .0) (sym (b .before .get .ensures) ∙ b .if1 .left) in
+    let x = nextOf (length F) (s .args .best) in
+    record {
+      within = c .first-of .ensures .within;
+      named =
+          c .first-of .ensures .named ∙ ap (firstOf F x) (next-of-node (s .pre .0))
+          ∙ sym (better-first (lookingIn F (now (s .args .taken))) (s .args .i) x free);
+    }
 
 pub better-spec : {M : Type 1} → statement M
 better-spec =
     tie.close
-    (tie.spec (λ c. search needs) returns returns-2 (λ c. search needs) (λ c. search needs) (λ c. search needs) (λ c. search needs)
-    (λ c κs. search needs) returns-3 returns-4)
+    (tie.spec (λ c κs. omega (arith, c .before .before .pre .2 .bits)) returns (λ c κs. (omega arith, omega arith)) returns-2)

@@ -1,39 +1,51 @@
--- `topk::next::next_node` meets its contract. After i turns `best` is the best of the nodes below i. Assumes nothing.
-use mathlib.Core.Path.{ap, refl, _∙_, _≡_}
+-- `topk::next::next_node` meets its contract. After b turns `best` is the best of the first b heads. Assumes nothing.
+use mathlib.Core.Path.{ap, _≡_, _∙_}
 use Prim.Native.Nat.{_-_, _≤_}
-use native.Mathlib.Nat.{le-antisymm}
 use native.Mathlib.Omega.{arith}
+use denote.Ref.{now}
 use lib.ListN.{length}
-use Rattle.topk.proofs.NextLaws.{best-more, best-none}
-use Rattle.topk.specs.Steps.{bestBelow}
-use Rattle.topk.specs.inside.Next.{looking, Names, next}
+use Rattle.topk.proofs.HeadLaws.{best-head-more, best-head-none}
+use Rattle.topk.specs.inside.Next.{bestHead, blocksFor, Names}
 use Rattle.topk.proofs.next.next_node.Statement.{statement}
 use Rattle.topk.proofs.next.next_node.Tie as tie
 
 abbrev Inv-loop : tie.InvT-loop
-Inv-loop figures taken best₀ i₀ i-end best i =
-    (i ≤ i-end) × (i-end ≡ length figures) × Names (looking figures taken) (bestBelow (looking figures taken) i) best
+Inv-loop figures heads best₀ b₀ b-end best b =
+    (b ≤ b-end) × (b-end ≡ blocksFor (length figures)) × Names (length figures) (bestHead figures heads b) best
 
 abbrev μ-loop : tie.MeasureT-loop
-μ-loop figures taken best₀ i₀ i-end best i = i-end - i
+μ-loop figures heads best₀ b₀ b-end best b = b-end - b
 
-loop-holds : tie.Need-loop-holds Inv-loop μ-loop
-loop-holds c = (omega arith, refl, record { within = omega arith; named = best-none _ _ })
+-- ---- the places: the call, and the loop's test
+abbrev start : tie.At-loop Inv-loop μ-loop → tie.Start Inv-loop μ-loop
+start c = c .before .before .before
+
+first-of-requires : tie.Need-first-of-requires Inv-loop μ-loop
+first-of-requires c κs =
+    let l = c .before .loop in
+    (l .inv .2 .within, start (c .before) .pre .1 (l .b) (omega (arith, l .inv .1)))
+
+cast-first-of : tie.Need-cast-first-of Inv-loop μ-loop
+cast-first-of c =
+    let s = start (c .before) in
+    omega (arith, s .pre .0, s .pre .1 (c .before .loop .b) (omega (arith, c .before .loop .inv .1)))
 
 loop-again : tie.Need-loop-again Inv-loop μ-loop
 loop-again c =
-    let b = c .better .ensures in
     let l = c .before .before .loop in
-    (omega arith, refl, record { within = b .within; named = best-more _ _ (l .i) _ _ (l .inv .2 .named) (b .named) })
+    let f = c .first-of .ensures in
+    (omega arith, l .inv .1, record { within = f .within; named = best-head-more _ _ (l .b) _ _ (l .inv .2 .named) (f .named) })
 
 returns : tie.Need-returns Inv-loop μ-loop
-unfolding next
 returns c =
     let l = c .before .loop in
-    record { within = l .inv .2 .within; named = l .inv .2 .named ∙ ap (bestBelow _) (le-antisymm (l .inv .0) (c .loop-test .left)) }
+    let done : l .b ≡ blocksFor (length (now (start (c .before) .args .figures))) = omega (arith, l .inv .1) in
+    record { within = l .inv .2 .within; named = l .inv .2 .named ∙ ap (bestHead _ _) done }
 
 pub next-node-spec : {M : Type 1} → statement M
 next-node-spec =
     tie.close
-    (tie.spec Inv-loop μ-loop loop-holds (λ c κs. (omega arith, omega arith, omega arith)) (λ c. omega arith) (λ c. omega arith) loop-again
+    (tie.spec Inv-loop μ-loop (λ c κs. c .before .pre .0)
+    (λ c. (omega arith, c .blocks-for .ensures, record { within = omega arith; named = best-head-none _ _ })) (λ c. omega arith)
+    (λ c. omega (arith, start (c .before) .pre .0, c .before .loop .inv .1)) cast-first-of first-of-requires (λ c. omega arith) (λ c. omega arith) loop-again
     returns)
