@@ -6,6 +6,7 @@ use crate::plain::graph::Graph;
 use crate::plain::limits::{MAX_DEGREE, UNIT};
 use crate::plain::packing::{self, bit, edge_bytes, mark_bytes, pair_count, pair_index, put_bit};
 use crate::rng::Rng;
+use crate::sparse::sparse_edges;
 
 /// How full a board is.
 #[derive(Clone, Copy)]
@@ -17,6 +18,8 @@ enum Fill {
     Full,
     /// About this many edges a node, and one node above the limit, where there are enough nodes.
     Crowded(usize),
+    /// Few edges, such that nodes lie far apart.
+    Sparse,
     /// Any bytes.
     Noise,
 }
@@ -35,7 +38,8 @@ pub fn node_count(rng: &mut Rng) -> usize {
 fn fill(rng: &mut Rng) -> Fill {
     match rng.below(20) {
         0 => Fill::None,
-        1..=4 => Fill::Edges(rng.between(1, 4)),
+        1 => Fill::Sparse,
+        2..=4 => Fill::Edges(rng.between(1, 4)),
         5..=9 => Fill::Edges(rng.between(5, 20)),
         10..=12 => Fill::Edges(rng.between(21, MAX_DEGREE - 1)),
         13..=15 => Fill::Full,
@@ -49,6 +53,7 @@ fn edges(rng: &mut Rng, n: usize, fill: Fill) -> Vec<u8> {
     let mut bytes = vec![0; edge_bytes(n)];
     let wanted = match fill {
         Fill::None => return bytes,
+        Fill::Sparse => return sparse_edges(rng, n),
         Fill::Noise => return rng.bytes(edge_bytes(n)),
         Fill::Edges(degree) | Fill::Crowded(degree) => n * degree / 2,
         Fill::Full => usize::MAX,

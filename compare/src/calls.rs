@@ -50,6 +50,9 @@ pub trait Calls: Sync {
     ) -> u64;
     /// The bit of the first pair on which both editors have spoken and which they left different, or 2^32.
     fn conflict(&self, edges: &[u8], n: u64, pins: &[u8], theirs: &[u8], their_pins: &[u8], base: &[u8]) -> u64;
+    /// The listed node that is reached over the fewest edges, at most `hops`, and of several the lowest number, as
+    /// edges · 65,536 + node, or 2^32.
+    fn nearest(&self, edges: &[u8], n: u64, node: u64, listed: &[u64], hops: u8) -> u64;
     fn list(
         &self,
         edges: &mut [u8],

@@ -24,6 +24,7 @@ enum Damage {
     Theirs,
     TheirPins,
     Base,
+    Listed,
     Entries,
     Changes,
     N,
@@ -77,6 +78,7 @@ fn chosen(rng: &mut Rng, kind: Kind) -> Damage {
         Kind::Reconcile => &[Theirs, Base, CrowdOne],
         Kind::ReconcilePinned => &[Pins, Theirs, TheirPins, Base, CrowdOne, CrowdOne],
         Kind::Conflict => &[N, Pins, Theirs, TheirPins, Base, CrowdOne],
+        Kind::Nearest => &[N, A, Listed, Listed, CrowdOne, CrowdOne],
         Kind::List | Kind::ListEntries => &[Scratch, Entries],
     };
     if rng.chance(60) || !kind.has_state() {
@@ -90,7 +92,6 @@ fn chosen(rng: &mut Rng, kind: Kind) -> Damage {
 pub fn damage(rng: &mut Rng, n: usize, memory: &mut Memory, call: &mut Call) {
     use Damage::*;
     let numbers = [0, 1, 255, 256, 257, 1 << 32, (1 << 32) + n as u64, u64::MAX];
-    let far = [n as u64, n as u64 + 1, 256, 1 << 32, 1 << 63, u64::MAX];
     match chosen(rng, call.kind) {
         Edges => resize(rng, &mut memory.edges),
         Marks => resize(rng, &mut memory.marks),
@@ -103,6 +104,7 @@ pub fn damage(rng: &mut Rng, n: usize, memory: &mut Memory, call: &mut Call) {
         Theirs => resize(rng, &mut memory.theirs),
         TheirPins => resize(rng, &mut memory.their_pins),
         Base => resize(rng, &mut memory.base),
+        Listed => spoil_list(rng, n, &mut memory.listed),
         Entries => {
             let length = wrong_length(rng, memory.entries.len());
             memory.entries.resize(length, 7);
@@ -112,8 +114,8 @@ pub fn damage(rng: &mut Rng, n: usize, memory: &mut Memory, call: &mut Call) {
             memory.changes.resize(length, rng.next() as i64);
         }
         N => call.n = rng.pick(&numbers),
-        A => call.a = rng.pick(&far),
-        B => call.b = rng.pick(&far),
+        A => call.a = far(rng, n),
+        B => call.b = far(rng, n),
         Same => call.b = call.a,
         Crowd => crowd(rng, n, &mut memory.edges, call.a, call.b),
         CrowdOne => crowd_one(rng, n, &mut memory.edges),
@@ -124,6 +126,22 @@ pub fn damage(rng: &mut Rng, n: usize, memory: &mut Memory, call: &mut Call) {
         }
         SnapshotOfOther => memory.snapshot = other_snapshot(rng),
         OtherBoard => other_board(rng, n, memory, call),
+    }
+}
+
+/// A number that is none of n nodes; its lowest bits may be those of one.
+fn far(rng: &mut Rng, n: usize) -> u64 {
+    let (n, node) = (n as u64, rng.below(n) as u64);
+    rng.pick(&[n, n + 1, 256, 1 << 32, (1 << 32) + node, 1 << 63, u64::MAX])
+}
+
+/// A number that is no node comes into a list: first, last or anywhere, in the place of another or beside it.
+fn spoil_list(rng: &mut Rng, n: usize, listed: &mut Vec<u64>) {
+    let any = rng.below(listed.len() + 1);
+    let at = rng.pick(&[0, any, listed.len().saturating_sub(1), listed.len()]);
+    match listed.get_mut(at) {
+        Some(number) if rng.chance(70) => *number = far(rng, n),
+        _ => listed.insert(at, far(rng, n)),
     }
 }
 

@@ -119,6 +119,7 @@ mod linked_library {
             ; ; ; edges: u8, figures: u64, marks: u8; pins: u8, theirs: u8, their_pins: u8, base: u8;
         );
         fj_port_conflict as conflict(; edges: u8; n: u64; ; pins: u8, theirs: u8, their_pins: u8, base: u8;);
+        fj_port_nearest as nearest(; edges: u8; n: u64, node: u64; ; listed: u64; hops: u8);
         fj_port_list as list(; ; ; edges: u8, figures: u64, marks: u8, entries: u64, scratch: u8; ;);
         fj_port_list_entries as list_entries(
             ; ; ; edges: u8, figures: u64, marks: u8, entries: Entry, scratch: u8; ;

@@ -7,6 +7,8 @@ use crate::plain::packing::{bit, edge_bytes, pair_count, pair_index, scratch_byt
 use crate::reconciles::{bring_pins, bring_theirs};
 use crate::rng::Rng;
 use crate::schedules::schedule;
+use crate::searches::bring_search;
+use crate::sparse::sparse_edges;
 use crate::surveys::survey;
 
 /// A pair of nodes, joined or not as wished where one is soon found; half of the time, neighbours of one node first.
@@ -42,15 +44,16 @@ pub fn next_call(rng: &mut Rng, n: usize, memory: &mut Memory) -> Call {
         12..=13 => Kind::ScheduleLoad,
         14..=15 => Kind::SurveyWrite,
         16..=17 => Kind::SurveyPosition,
-        18..=23 => Kind::Score,
-        24..=28 => Kind::PreviewAdd,
-        29..=50 => Kind::Add,
-        51..=55 => Kind::PreviewRemove,
-        56..=70 => Kind::Remove,
-        71..=76 => Kind::Reconcile,
-        77..=82 => Kind::ReconcilePinned,
-        83..=85 => Kind::Conflict,
-        86..=92 => Kind::List,
+        18..=22 => Kind::Score,
+        23..=27 => Kind::PreviewAdd,
+        28..=48 => Kind::Add,
+        49..=53 => Kind::PreviewRemove,
+        54..=67 => Kind::Remove,
+        68..=73 => Kind::Reconcile,
+        74..=79 => Kind::ReconcilePinned,
+        80..=82 => Kind::Conflict,
+        83..=86 => Kind::Nearest,
+        87..=93 => Kind::List,
         _ => Kind::ListEntries,
     };
     call_of_kind(rng, n, memory, kind)
@@ -103,9 +106,18 @@ fn edited_pair(rng: &mut Rng, n: usize, edges: &[u8], removes: bool) -> (usize, 
     pair(rng, n, edges, joined)
 }
 
+/// A call that stands alone. A search is then often on a board whose nodes lie far apart; in a history the board is that
+/// of the calls before.
+pub fn single_call(rng: &mut Rng, n: usize, memory: &mut Memory, kind: Kind) -> Call {
+    if kind == Kind::Nearest && rng.chance(45) {
+        memory.edges = sparse_edges(rng, n);
+    }
+    call_of_kind(rng, n, memory, kind)
+}
+
 /// A call of this kind that is mostly accepted.
 pub fn call_of_kind(rng: &mut Rng, n: usize, memory: &mut Memory, kind: Kind) -> Call {
-    let mut call = Call { kind, n: n as u64, a: 0, b: 0, minute: 0, threshold: 0 };
+    let mut call = Call { kind, n: n as u64, a: 0, b: 0, minute: 0, threshold: 0, hops: 0 };
     match kind {
         Kind::Clear => {}
         Kind::Score => call.a = rng.below(n) as u64,
@@ -137,6 +149,7 @@ pub fn call_of_kind(rng: &mut Rng, n: usize, memory: &mut Memory, kind: Kind) ->
             bring_theirs(rng, n, memory);
             bring_pins(rng, n, memory);
         }
+        Kind::Nearest => bring_search(rng, n, memory, &mut call),
         Kind::List | Kind::ListEntries => bring_entries(rng, n, memory),
     }
     call

@@ -40,7 +40,7 @@ fn main() -> ExitCode {
     let words: Vec<&str> = words.iter().map(String::as_str).collect();
     let done = match words.split_first() {
         Some((&"compare", rest)) => library().and_then(|version| comparison(version, rest)),
-        Some((&"compare-tuned", rest)) => comparison(&tuned::Tuned, rest),
+        Some((&"compare-tuned", rest)) => comparison(&tuned::BY_ROWS, rest),
         Some((&"compare-replay", [program, rest @ ..])) => scripts_comparison(program, rest),
         Some((&"bench", [])) => {
             bench::run(ffi::linked());

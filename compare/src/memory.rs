@@ -22,11 +22,12 @@ pub enum Kind {
     Reconcile,
     ReconcilePinned,
     Conflict,
+    Nearest,
     List,
     ListEntries,
 }
 
-pub const KINDS: [Kind; 18] = [
+pub const KINDS: [Kind; 19] = [
     Kind::Clear,
     Kind::Load,
     Kind::Write,
@@ -43,6 +44,7 @@ pub const KINDS: [Kind; 18] = [
     Kind::Reconcile,
     Kind::ReconcilePinned,
     Kind::Conflict,
+    Kind::Nearest,
     Kind::List,
     Kind::ListEntries,
 ];
@@ -56,11 +58,12 @@ pub struct Call {
     pub b: u64,
     pub minute: u16,
     pub threshold: u64,
+    pub hops: u8,
 }
 
 impl fmt::Display for Call {
     fn fmt(&self, f: &mut fmt::Formatter) -> fmt::Result {
-        let Call { kind, n, a, b, minute, threshold } = self;
+        let Call { kind, n, a, b, minute, threshold, hops } = self;
         match kind {
             Kind::Clear => write!(f, "clear, n = {n}"),
             Kind::Score => write!(f, "score, n = {n}, node {a}"),
@@ -78,6 +81,7 @@ impl fmt::Display for Call {
             Kind::Reconcile => write!(f, "reconcile"),
             Kind::ReconcilePinned => write!(f, "reconcile with pins"),
             Kind::Conflict => write!(f, "first conflict, n = {n}"),
+            Kind::Nearest => write!(f, "nearest listed node, n = {n}, from {a}, at most {hops} hops"),
             Kind::List => write!(f, "list"),
             Kind::ListEntries => write!(f, "list, entries as records"),
         }
@@ -92,6 +96,7 @@ impl Kind {
             | Kind::ScheduleNext
             | Kind::SurveyPosition
             | Kind::Conflict
+            | Kind::Nearest
             | Kind::List
             | Kind::ListEntries => {
                 let negated = answer.wrapping_neg();
@@ -126,6 +131,7 @@ pub struct Memory {
     pub theirs: Vec<u8>,
     pub their_pins: Vec<u8>,
     pub base: Vec<u8>,
+    pub listed: Vec<u64>,
     /// The plain entries; as records, as many as there are whole ones.
     pub entries: Vec<u64>,
     pub scratch: Vec<u8>,
@@ -135,9 +141,9 @@ pub struct Memory {
 impl Memory {
     /// Runs the call of one version over this memory.
     pub fn run(&mut self, version: &dyn Calls, call: Call) -> u64 {
-        let Call { kind, n, a, b, minute, threshold } = call;
+        let Call { kind, n, a, b, minute, threshold, hops } = call;
         let Memory { edges, marks, snapshot, schedule, survey, pins, theirs, their_pins, base, .. } = self;
-        let Memory { figures, entries, scratch, changes, .. } = self;
+        let Memory { figures, listed, entries, scratch, changes, .. } = self;
         match kind {
             Kind::Clear => version.clear(n, edges, figures, marks),
             Kind::Add => version.add(n, edges, figures, marks, a, b),
@@ -163,6 +169,7 @@ impl Memory {
                 version.reconcile_pinned(edges, figures, marks, pins, theirs, their_pins, base)
             }),
             Kind::Conflict => version.conflict(edges, n, pins, theirs, their_pins, base),
+            Kind::Nearest => version.nearest(edges, n, a, listed, hops),
             Kind::List => over_numbers(figures, |figures| version.list(edges, figures, marks, entries, scratch)),
             Kind::ListEntries => over_records(entries, |entries| {
                 over_numbers(figures, |figures| version.list_entries(edges, figures, marks, entries, scratch))
@@ -187,6 +194,11 @@ impl Memory {
         ]
     }
 
+    /// The buffers of unsigned numbers, by name.
+    fn numbers(&self) -> [(&'static str, &[u64]); 2] {
+        [("listed", &self.listed), ("entries", &self.entries)]
+    }
+
     /// Where two memories differ first: the buffer, the place and both values.
     pub fn difference(&self, other: &Memory) -> Option<String> {
         for ((name, mine), (_, yours)) in self.bytes().into_iter().zip(other.bytes()) {
@@ -194,8 +206,10 @@ impl Memory {
                 return Some(format!("{name} byte {place}: {mine:#04x} against {yours:#04x}"));
             }
         }
-        if let Some((place, mine, yours)) = first_difference(&self.entries, &other.entries) {
-            return Some(format!("entries number {place}: {mine} against {yours}"));
+        for ((name, mine), (_, yours)) in self.numbers().into_iter().zip(other.numbers()) {
+            if let Some((place, mine, yours)) = first_difference(mine, yours) {
+                return Some(format!("{name} number {place}: {mine} against {yours}"));
+            }
         }
         let (place, mine, yours) = first_difference(&self.changes, &other.changes)?;
         Some(format!("change {place}: {mine} against {yours}"))
@@ -239,6 +253,11 @@ impl fmt::Display for Memory {
             }
             writeln!(f, "{}", if buffer.len() > 64 { " .." } else { "" })?;
         }
+        write!(f, "  listed, {} numbers:", self.listed.len())?;
+        for number in self.listed.iter().take(32) {
+            write!(f, " {number}")?;
+        }
+        writeln!(f, "{}", if self.listed.len() > 32 { " .." } else { "" })?;
         writeln!(f, "  entries, {} numbers", self.entries.len())?;
         writeln!(f, "  changes, {} numbers", self.changes.len())
     }

@@ -3,13 +3,13 @@
 use crate::boards::{corrupt, node_count, state};
 use crate::calls::Calls;
 use crate::damage::damage;
-use crate::generate::{call_of_kind, next_call};
+use crate::generate::{call_of_kind, next_call, single_call};
 use crate::memory::{Call, Kind, Memory, KINDS};
 use crate::plain::calls::Plain;
 use crate::plain::refusal::Refusal;
 use crate::plain::{derived, paths};
 use crate::rng::Rng;
-use crate::{pinned_check, preview_check, schedule_check};
+use crate::{nearest_check, pinned_check, preview_check, schedule_check};
 
 const BY_PATHS: Plain = Plain { name: "plain (paths)", scorer: paths::score };
 const BY_FORM: Plain = Plain { name: "plain (derived form)", scorer: derived::score };
@@ -18,10 +18,11 @@ const BY_FORM: Plain = Plain { name: "plain (derived form)", scorer: derived::sc
 type Check = fn(&dyn Calls, Call, &Memory, &Memory, u64) -> Result<(), String>;
 
 /// The checks, each with what a call stands against.
-const CHECKS: [(Check, &str); 3] = [
+const CHECKS: [(Check, &str); 4] = [
     (preview_check::check, "its own edit and scores"),
     (schedule_check::check, "its own snapshot"),
     (pinned_check::check, "its own reconcile and first conflict"),
+    (nearest_check::check, "its own other searches"),
 ];
 
 /// What a run met: how often each kind of call gave each refusal.
@@ -103,7 +104,7 @@ fn length(rng: &mut Rng, single: bool) -> usize {
 fn call_of_step(rng: &mut Rng, n: usize, memory: &mut Memory, step: usize, single: bool) -> Call {
     let kind = rng.pick(&KINDS);
     match step {
-        0 if single => call_of_kind(rng, n, memory, kind),
+        0 if single => single_call(rng, n, memory, kind),
         0 if rng.chance(45) => call_of_kind(rng, n, memory, Kind::Clear),
         0 if rng.chance(80) => {
             let load = rng.pick(&[Kind::Load, Kind::ScheduleLoad]);

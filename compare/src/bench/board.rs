@@ -3,7 +3,7 @@
 use crate::calls::{Calls, Entry};
 use crate::plain::packing::{bit, edge_bytes, mark_bytes, pair_index, pairs, put_bit, scratch_bytes};
 use crate::rng::Rng;
-use crate::tuned::Tuned;
+use crate::tuned::BY_ROWS;
 
 /// A state that owns its buffers, the figures in both forms.
 #[derive(Clone)]
@@ -20,17 +20,20 @@ pub struct Board {
     pub pins: Vec<u8>,
     pub theirs: Vec<u8>,
     pub their_pins: Vec<u8>,
+    pub listed: Vec<u64>,
     pub entries: Vec<u64>,
     pub records: Vec<Entry>,
     pub scratch: Vec<u8>,
     pub changes: Vec<i64>,
-    /// The pair that an edit names or a survey is asked about, or the node that is scored.
+    /// The pair that an edit names or a survey is asked about, or the node that is scored or from which a search goes.
     pub a: u64,
     pub b: u64,
     /// The minute at which the schedule is read.
     pub minute: u16,
     /// The threshold at which the survey is read.
     pub threshold: u64,
+    /// The hop limit of a search.
+    pub hops: u8,
 }
 
 impl Board {
@@ -63,17 +66,7 @@ impl Board {
 
     /// The board with those of the pairs, taken in order, that leave each node within `links` edges, loaded: all open.
     fn of(n: usize, links: usize, pairs: Vec<(usize, usize)>) -> Board {
-        let mut snapshot = vec![0; 1 + edge_bytes(n)];
-        snapshot[0] = (n - 1) as u8;
-        let mut degrees = vec![0; n];
-        for (a, b) in pairs {
-            let absent = !bit(&snapshot[1..], pair_index(a, b));
-            if absent && degrees[a] < links && degrees[b] < links {
-                put_bit(&mut snapshot[1..], pair_index(a, b), true);
-                degrees[a] += 1;
-                degrees[b] += 1;
-            }
-        }
+        let snapshot = snapshot(n, links, pairs);
         let mut board = Board {
             n,
             edges: vec![0; edge_bytes(n)],
@@ -83,6 +76,7 @@ impl Board {
             pins: vec![0; edge_bytes(n)],
             theirs: Vec::new(),
             their_pins: vec![0; edge_bytes(n)],
+            listed: Vec::new(),
             entries: vec![0; 16],
             records: vec![Entry::default(); 8],
             scratch: vec![0; scratch_bytes(n)],
@@ -94,8 +88,9 @@ impl Board {
             b: 0,
             minute: 0,
             threshold: 0,
+            hops: u8::MAX,
         };
-        board.load(&Tuned);
+        board.load(&BY_ROWS);
         board.theirs = board.edges.clone();
         board.pour();
         board
@@ -186,6 +181,10 @@ impl Board {
         version.conflict(edges, *n as u64, pins, theirs, their_pins, &snapshot[1..])
     }
 
+    pub fn nearest(&mut self, version: &dyn Calls) -> u64 {
+        version.nearest(&self.edges, self.n as u64, self.a, &self.listed, self.hops)
+    }
+
     pub fn list(&mut self, version: &dyn Calls) -> u64 {
         version.list(&mut self.edges, &mut self.figures, &mut self.marks, &mut self.entries, &mut self.scratch)
     }
@@ -193,4 +192,20 @@ impl Board {
     pub fn list_entries(&mut self, version: &dyn Calls) -> u64 {
         version.list_entries(&mut self.edges, &mut self.figures, &mut self.marks, &mut self.records, &mut self.scratch)
     }
+}
+
+/// The snapshot of those of the pairs, taken in order, that leave each node within `links` edges.
+fn snapshot(n: usize, links: usize, pairs: Vec<(usize, usize)>) -> Vec<u8> {
+    let mut snapshot = vec![0; 1 + edge_bytes(n)];
+    snapshot[0] = (n - 1) as u8;
+    let mut degrees = vec![0; n];
+    for (a, b) in pairs {
+        let absent = !bit(&snapshot[1..], pair_index(a, b));
+        if absent && degrees[a] < links && degrees[b] < links {
+            put_bit(&mut snapshot[1..], pair_index(a, b), true);
+            degrees[a] += 1;
+            degrees[b] += 1;
+        }
+    }
+    snapshot
 }

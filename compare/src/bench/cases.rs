@@ -1,11 +1,12 @@
 //! What the benchmark times: each call on its boards.
 
 use super::board::Board;
+use super::searches;
 use super::time::BATCH;
 use crate::calls::{Calls, Entry};
 use crate::plain::packing::{pair_index, put_bit};
 use crate::rng::Rng;
-use crate::tuned::Tuned;
+use crate::tuned::BY_ROWS;
 
 /// The boards of one line of the table, and the call that is timed on each of them.
 pub struct Case {
@@ -26,6 +27,7 @@ pub fn cases(rng: &mut Rng, board: Board) -> Vec<Case> {
     let absent = absent(&present);
     let merged = merged(&board, &joined);
     let pinned = pinned(&merged, &joined);
+    let [near, far, lost] = searches::boards(rng, &board);
     let settled = settled(&board);
     let edited = edited(&settled, joined[0]);
     let all = Board { entries: vec![0; 2 * n], records: vec![Entry::default(); n], ..board.clone() };
@@ -41,6 +43,9 @@ pub fn cases(rng: &mut Rng, board: Board) -> Vec<Case> {
         Case { name: "reconcile 8 pairs", boards: same(&merged), call: Board::reconcile },
         Case { name: "reconcile with pins", boards: same(&pinned), call: Board::reconcile_pinned },
         Case { name: "first conflict", boards: same(&pinned), call: Board::conflict },
+        Case { name: "nearest, near", boards: near, call: Board::nearest },
+        Case { name: "nearest, far", boards: far, call: Board::nearest },
+        Case { name: "nearest, none", boards: lost, call: Board::nearest },
         Case { name: "list 8, all open", boards: same(&board), call: Board::list },
         Case { name: "list n, all open", boards: same(&all), call: Board::list },
         Case { name: "list 8, settled", boards: same(&settled), call: Board::list },
@@ -61,7 +66,7 @@ fn present(board: &Board, joined: &[(usize, usize)]) -> Vec<Board> {
 fn absent(present: &[Board]) -> Vec<Board> {
     let mut absent = present.to_vec();
     for board in &mut absent {
-        board.remove(&Tuned);
+        board.remove(&BY_ROWS);
     }
     absent
 }
@@ -97,7 +102,7 @@ pub fn pinned(merged: &Board, joined: &[(usize, usize)]) -> Board {
 /// The board with every node worked out.
 fn settled(board: &Board) -> Board {
     let mut settled = Board { entries: vec![0; 2 * board.n], ..board.clone() };
-    settled.list(&Tuned);
+    settled.list(&BY_ROWS);
     settled.entries = vec![0; 16];
     settled.pour();
     settled
@@ -106,7 +111,7 @@ fn settled(board: &Board) -> Board {
 /// The board after the removal of an edge.
 fn edited(board: &Board, (a, b): (usize, usize)) -> Board {
     let mut edited = Board { a: a as u64, b: b as u64, ..board.clone() };
-    edited.remove(&Tuned);
+    edited.remove(&BY_ROWS);
     edited.pour_back();
     edited
 }

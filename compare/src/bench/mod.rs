@@ -1,17 +1,18 @@
 //! The benchmark: each call on the same boards, the library beside the tuned version, medians and their ratio; then how
-//! many nodes a list works out, and the calls of schedules and of surveys. Nothing is asserted of a time.
+//! many nodes a list works out, searches beside those by blocks, and the calls of schedules and of surveys. Nothing is asserted of a time.
 
 pub(crate) mod board;
 pub(crate) mod cases;
 mod files;
 pub(crate) mod schedules;
+pub(crate) mod searches;
 pub(crate) mod surveys;
 mod time;
 mod worked;
 
 use crate::calls::Calls;
 use crate::rng::Rng;
-use crate::tuned::Tuned;
+use crate::tuned::BY_ROWS;
 use board::Board;
 use cases::{cases, Case};
 use time::{time, time_whole, BATCH, ROUNDS};
@@ -21,7 +22,7 @@ const LINKS: [usize; 4] = [4, 16, 32, 40];
 /// The sizes and the links of the clustered boards, and of the boards of which the work of a list is counted.
 const DENSE: [(usize, usize); 4] = [(64, 32), (64, 40), (256, 32), (256, 40)];
 /// The calls that are timed on clustered boards too.
-const CLUSTERED: [&str; 5] = ["load", "preview of an add", "preview of a remove", "add", "remove"];
+const CLUSTERED: [&str; 6] = ["load", "preview of an add", "preview of a remove", "add", "remove", "nearest, far"];
 /// The boards of a size and a number of links depend on it alone.
 const SEED: u64 = 2005;
 
@@ -37,7 +38,7 @@ fn cases_of(make: Make, n: usize, links: usize) -> Vec<Case> {
 
 /// Prints the tables.
 pub fn run(library: Option<&dyn Calls>) {
-    let mut versions: Vec<&dyn Calls> = vec![&Tuned];
+    let mut versions: Vec<&dyn Calls> = vec![&BY_ROWS];
     versions.extend(library);
     if library.is_none() {
         println!("the library is not linked: only the tuned version is timed");
@@ -69,6 +70,7 @@ pub fn run(library: Option<&dyn Calls>) {
     for line in summary {
         println!("{line}");
     }
+    searches::run(library);
     worked::run(&versions);
     schedules::run(&versions);
     surveys::run(&versions);

@@ -2,11 +2,14 @@
 //! the figures of small boards, what previews show and when they are refused, the sheets that are written and when a
 //! write is refused, of timed sheets the sheets at a minute, loads at a minute, next changes, and when these are
 //! refused, of surveys the sheets at a threshold, the records that count, and when these are refused, of pins the links
-//! that stand, the first conflict, and when a reconcile with pins is refused, and of the scratch the lists that it serves
-//! and when one is refused.
+//! that stand, the first conflict, and when a reconcile with pins is refused, of the scratch the lists that it serves and
+//! when one is refused, and of listed posts the nearest one and when the search for it is refused.
 
 mod figures;
 mod long_surveys;
+mod nearest;
+mod nearest_boards;
+mod nearest_refusals;
 mod next_changes;
 mod pin_refusals;
 mod pinned_boards;
@@ -18,6 +21,7 @@ mod schedule_loads;
 mod schedule_refusals;
 mod schedules;
 mod scratch;
+mod shapes;
 mod sheet_refusals;
 mod sheets;
 mod survey_refusals;
@@ -28,13 +32,14 @@ use crate::memory::{Call, Kind, Memory};
 use crate::plain::packing::{edge_bytes, mark_bytes, pair_count, pair_index, put_bit, scratch_bytes};
 
 /// A board of n posts, with all that a call can be lent: of the lengths that n requires, one entry, no links anywhere,
-/// a timed sheet and a survey without records, and a threshold of 0.
+/// a timed sheet and a survey without records, no listed posts, and a threshold and a hop limit of 0.
 struct Board<'a> {
     version: &'a dyn Calls,
     n: usize,
     lent: Memory,
     minute: u16,
     threshold: u64,
+    hops: u8,
 }
 
 impl<'a> Board<'a> {
@@ -51,17 +56,18 @@ impl<'a> Board<'a> {
             their_pins: links.clone(),
             base: links.clone(),
             edges: links,
+            listed: Vec::new(),
             entries: vec![0; 2],
             scratch: vec![0; scratch_bytes(n)],
             changes: vec![0; n],
         };
-        Board { version, n, lent, minute: 0, threshold: 0 }
+        Board { version, n, lent, minute: 0, threshold: 0, hops: 0 }
     }
 
     /// A call with the board's numbers.
     fn given(&self, kind: Kind, a: usize, b: usize) -> Call {
-        let (n, minute, threshold) = (self.n as u64, self.minute, self.threshold);
-        Call { kind, n, a: a as u64, b: b as u64, minute, threshold }
+        let (n, minute, threshold, hops) = (self.n as u64, self.minute, self.threshold, self.hops);
+        Call { kind, n, a: a as u64, b: b as u64, minute, threshold, hops }
     }
 
     /// What a call answers.
@@ -214,5 +220,7 @@ pub fn run(version: &dyn Calls) -> Result<(), String> {
     pinned_boards::run(version)?;
     run_refused(version, "pins", &pin_refusals::CASES)?;
     scratch::run(version)?;
-    run_refused(version, "scratch", &scratch::REFUSED)
+    run_refused(version, "scratch", &scratch::REFUSED)?;
+    nearest::run(version)?;
+    run_refused(version, "nearest", &nearest_refusals::CASES)
 }

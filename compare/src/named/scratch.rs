@@ -1,6 +1,7 @@
 //! Lists from a scratch of n bits, rounded up to bytes: whatever it holds and however long it is, the entries, figures,
 //! marks and count are those due, its bytes that n requires end as 0, and later ones stay.
 
+use super::shapes::ring;
 use super::{board, set_spare, spokes, Answer, Board, Refused};
 use crate::calls::Calls;
 use crate::memory::Kind::{self, List, ListEntries};
@@ -46,11 +47,6 @@ fn but_last(n: usize, figure: u64, last: u64) -> Vec<u64> {
 /// These posts, each with this figure.
 fn each(posts: impl Iterator<Item = usize>, figure: u64) -> Vec<(usize, u64)> {
     posts.map(|p| (p, figure)).collect()
-}
-
-/// The links of n posts in a ring: each post scores 1.
-fn ring(n: usize) -> Vec<(usize, usize)> {
-    (0..n).map(|p| (p, (p + 1) % n)).collect()
 }
 
 /// The others to which the middle of a star has its links: all of them, but 40 at most.

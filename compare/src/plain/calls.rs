@@ -3,7 +3,7 @@
 use super::refusal::{refuse_if, Refusal};
 use super::score::Scorer;
 use super::state::{check_node_count, State};
-use super::{clear, edit, list, pinned, preview, reconcile, schedule, score, snapshot, survey};
+use super::{clear, edit, list, nearest, pinned, preview, reconcile, schedule, score, snapshot, survey};
 use crate::calls::{Calls, Entry};
 
 /// The plain version with one of its two ways to score.
@@ -129,6 +129,10 @@ impl Calls for Plain {
 
     fn conflict(&self, edges: &[u8], n: u64, pins: &[u8], theirs: &[u8], their_pins: &[u8], base: &[u8]) -> u64 {
         value(pinned::conflict(edges, n, pins, theirs, their_pins, base))
+    }
+
+    fn nearest(&self, edges: &[u8], n: u64, node: u64, listed: &[u64], hops: u8) -> u64 {
+        value(nearest::nearest(edges, n, node, listed, hops))
     }
 
     fn list(

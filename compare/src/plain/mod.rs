@@ -9,6 +9,7 @@ pub mod edit;
 pub mod graph;
 pub mod limits;
 pub mod list;
+pub mod nearest;
 pub mod packing;
 pub mod paths;
 pub mod pinned;

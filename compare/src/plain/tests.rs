@@ -1,6 +1,7 @@
 //! The description's worked cases, run on the plain version with both ways to score.
 
 mod bounds;
+mod nearest;
 mod pins;
 mod previews;
 

@@ -2,11 +2,11 @@
 
 use crate::bench::board::Board;
 use crate::bench::cases::{merged, pinned};
-use crate::bench::{schedules, surveys};
+use crate::bench::{schedules, searches, surveys};
 use crate::calls::Entry;
 use crate::plain::graph::Graph;
 use crate::rng::Rng;
-use crate::tuned::Tuned;
+use crate::tuned::BY_ROWS;
 
 /// The records of a schedule and of a survey.
 const RECORDS: usize = 300;
@@ -25,6 +25,8 @@ pub struct Boards {
     pub timed: Vec<Board>,
     /// With a survey, read at a threshold and asked about a pair.
     pub surveyed: Vec<Board>,
+    /// For searches: the nearest listed node is near, far, or not reached.
+    pub searched: Vec<Board>,
     /// For lists of one node and of all.
     pub listed: Vec<Board>,
 }
@@ -52,6 +54,7 @@ impl Boards {
             merged: vec![merged],
             timed,
             surveyed,
+            searched: searches::boards(rng, board).concat(),
             listed: [1, n].map(|k| listed(board, k)).to_vec(),
         }
     }
@@ -67,7 +70,7 @@ fn joined(board: &Board, pairs: &[(usize, usize)]) -> Vec<Board> {
 /// The board without its pair.
 fn without(board: &Board) -> Board {
     let mut without = board.clone();
-    without.remove(&Tuned);
+    without.remove(&BY_ROWS);
     without
 }
 

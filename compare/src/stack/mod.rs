@@ -42,6 +42,7 @@ const ROWS: [Row; KINDS.len()] = [
     Row { name: "reconcile", kind: Kind::Reconcile, call: Board::reconcile, boards: |of| &of.merged },
     Row { name: "reconcile_pinned", kind: Kind::ReconcilePinned, call: Board::reconcile_pinned, boards: |of| &of.pinned },
     Row { name: "conflict", kind: Kind::Conflict, call: Board::conflict, boards: |of| &of.pinned },
+    Row { name: "nearest", kind: Kind::Nearest, call: Board::nearest, boards: |of| &of.searched },
     Row { name: "list", kind: Kind::List, call: Board::list, boards: |of| &of.listed },
     Row { name: "list_entries", kind: Kind::ListEntries, call: Board::list_entries, boards: |of| &of.listed },
 ];

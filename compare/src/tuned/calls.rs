@@ -1,13 +1,24 @@
 //! The tuned version behind the C functions' signatures.
 
-use super::{edit, list, merge, next_change, pinned, preview, schedule, score, snapshot, survey};
+use super::{blocks, edit, list, merge, nearest, next_change, pinned, preview, schedule, score, snapshot, survey};
 use crate::calls::{Calls, Entry};
 
-pub struct Tuned;
+/// How the nearest listed node is found: the answer, or a refusal.
+type Search = fn(&[u8], u64, u64, &[u64], u8) -> Result<u64, u64>;
+
+pub struct Tuned {
+    name: &'static str,
+    search: Search,
+}
+
+/// The search goes over rows that are made edge by edge.
+pub const BY_ROWS: Tuned = Tuned { name: "tuned", search: nearest::nearest };
+/// The search goes over a matrix that is made block by block.
+pub const BY_BLOCKS: Tuned = Tuned { name: "tuned (blocks)", search: blocks::nearest };
 
 impl Calls for Tuned {
     fn name(&self) -> &'static str {
-        "tuned"
+        self.name
     }
 
     fn clear(&self, n: u64, edges: &mut [u8], figures: &mut [u8], marks: &mut [u8]) -> u64 {
@@ -88,6 +99,10 @@ impl Calls for Tuned {
 
     fn conflict(&self, edges: &[u8], n: u64, pins: &[u8], theirs: &[u8], their_pins: &[u8], base: &[u8]) -> u64 {
         pinned::conflict(edges, n, pins, theirs, their_pins, base).unwrap_or_else(u64::wrapping_neg)
+    }
+
+    fn nearest(&self, edges: &[u8], n: u64, node: u64, listed: &[u64], hops: u8) -> u64 {
+        (self.search)(edges, n, node, listed, hops).unwrap_or_else(u64::wrapping_neg)
     }
 
     fn list(

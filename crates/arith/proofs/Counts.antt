@@ -1,7 +1,7 @@
--- Counts of the numbers below n that pass a test: none, all, no fewer, and what a full count says. Assumes nothing.
+-- Counts of the numbers below n that pass a test: none, all, no fewer, more, and what a full count says. Assumes nothing.
 use mathlib.Core.Bool.{Bool, false, true}
 use mathlib.Core.Logic.{inl, inr}
-use mathlib.Core.Path.{ap, refl, _∙_, _≡_}
+use mathlib.Core.Path.{ap, refl, sym, _∙_, _≡_}
 use Prim.Native.Nat.{_<_, suc, zero, ℕ, _≤_}
 use native.Mathlib.Decide.{decLt, ℕ-discrete}
 use native.Mathlib.Omega.{arith}
@@ -26,6 +26,17 @@ count-within f g zero h = omega arith
 count-within f g (suc n) h =
     let ih = count-within f g n (λ q l. h q (omega arith)) in
     elim (test (f n)) [ inl t ↦ omega (arith, ih, ap bit t, ap bit (h n (omega arith) t)) | inr t ↦ omega (arith, ih, ap bit t) ]
+
+-- and more do, where one that fails the first passes the other
+pub count-fewer : (f g : ℕ → Bool) (n q : ℕ) → ((q : ℕ) → q < n → f q ≡ true → g q ≡ true) → q < n → f q ≡ false → g q ≡ true → countTo f n < countTo g n
+unfolding sumTo
+count-fewer f g zero q h l a b = absurd (omega arith)
+count-fewer f g (suc n) q h l a b = elim (ℕ-discrete q n) [
+  | yes e ↦ omega (arith, count-within f g n (λ r k. h r (omega arith)), ap bit (ap f (sym e) ∙ a), ap bit (ap g (sym e) ∙ b))
+  | no d ↦
+      let ih = count-fewer f g n q (λ r k. h r (omega arith)) (omega arith) a b in
+      elim (test (f n)) [ inl t ↦ omega (arith, ih, ap bit t, ap bit (h n (omega arith) t)) | inr t ↦ omega (arith, ih, ap bit t) ]
+]
 
 -- where as many pass as there are, each does
 pub count-full : (f : ℕ → Bool) (n q : ℕ) → countTo f n ≡ n → q < n → f q ≡ true

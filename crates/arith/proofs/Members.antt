@@ -1,14 +1,16 @@
--- What a concatenation has, and lists that have no element twice. Assumes nothing.
-use mathlib.Core.Bool.{Bool}
+-- What a list and a concatenation have, and lists that have no element twice. Assumes nothing.
+use mathlib.Core.Bool.{Bool, or-true, true, true≢false}
 use mathlib.Core.List.{_++_, [], List, List·Memᴰ, List·Memᴰ·append-cases, List·Memᴰ·cases-cons, List·Memᴰ·head, List·Memᴰ·not-nil, List·Memᴰ·tail, map, Memᴰ·append-left, Memᴰ·append-right, Memᴰ·cast, Memᴰ·of-map, _∷_}
 use mathlib.Core.Logic.{inl, inr}
 use mathlib.Core.Path.{ap, fun-ext, refl, subst, sym, _≡_}
-use Prim.Native.Nat.{_≤_}
+use Prim.Native.Nat.{ℕ, _≤_}
 use native.Mathlib.Omega.{arith}
+use borrow.Author.Tests.{eq-eqb, eqb-true}
+use lib.Dec.{eqb}
 use lib.ListN.{length}
 use Rattle.arith.proofs.Filter.{mem-filter}
 use Rattle.arith.proofs.Tests.{each, test}
-use Rattle.arith.specs.Lists.{concatMap, Distinct, filter}
+use Rattle.arith.specs.Lists.{concatMap, Distinct, elem, filter, nonEmpty}
 
 module _ {A B : Type 0} where
   pub concat-ext : {F F′ : A → List B} (xs : List A) → ((x : A) → F x ≡ F′ x) → concatMap F xs ≡ concatMap F′ xs
@@ -34,6 +36,27 @@ module _ {A B : Type 0} (F : A → List B) where
         | inl e ↦ Memᴰ·append-left (concatMap F zs) (subst (λ w. List·Memᴰ y (F w)) e i)
         | inr j ↦ Memᴰ·append-right (F z) (concat-in zs j i)
       ]
+
+module _ {A : Type 0} where
+  pub any-mem : {x : A} {xs : List A} → List·Memᴰ x xs → nonEmpty xs ≡ true
+  any-mem (List·Memᴰ·head e) = refl
+  any-mem (List·Memᴰ·tail m) = refl
+
+  pub mem-any : (xs : List A) → nonEmpty xs ≡ true → (x : A) × List·Memᴰ x xs
+  mem-any [] e = absurd (true≢false (sym e))
+  mem-any (x ∷ xs) e = (x, List·Memᴰ·head refl)
+
+-- the test for an element
+pub elem-mem : (x : ℕ) (xs : List ℕ) → elem x xs ≡ true → List·Memᴰ x xs
+elem-mem x [] e = absurd (true≢false (sym e))
+elem-mem x (y ∷ ys) e = elim (test (eqb y x)) [
+  | inl t ↦ List·Memᴰ·head (sym (eqb-true y x t))
+  | inr t ↦ List·Memᴰ·tail (elem-mem x ys (rw t at e))
+]
+
+pub mem-elem : {x : ℕ} {xs : List ℕ} → List·Memᴰ x xs → elem x xs ≡ true
+mem-elem {x} (List·Memᴰ·head {x = y} e) = rw (eq-eqb y x (sym e))
+mem-elem {x} (List·Memᴰ·tail {x = y} m) = rw (mem-elem m) (or-true (eqb y x))
 
 pub mem-some {ℓ} : {A : Type ℓ} {x : A} {xs : List A} → List·Memᴰ x xs → 1 ≤ length xs
 mem-some (List·Memᴰ·head e) = omega arith

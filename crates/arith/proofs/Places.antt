@@ -1,18 +1,19 @@
--- Sums over a list, and over its pairs, by the elements' places. Assumes nothing.
+-- Sums over a list, and over its pairs, and what a list has, by the elements' places. Assumes nothing.
 use mathlib.Core.Path.{_≡_, refl, sym, ap, ap₂, _∙_}
-use mathlib.Core.Bool.{Bool, false, true}
+use mathlib.Core.Bool.{Bool, false, true, _||_}
 use mathlib.Core.List.{List, [], _∷_, map}
 use Prim.Native.Nat.{ℕ, zero, suc, _+_, _<_, _≤_}
 use native.Mathlib.Decide.{decLt}
 use native.Mathlib.Nat.{zero-add}
 use native.Mathlib.Omega.{arith}
+use lib.Dec.{eqb}
 use lib.ListN.{length, getD, length-append, List·getD-append}
 use lib.Seq.{getD-append-add}
-use Rattle.arith.specs.Lists.{consIf, count, filter, pairs, range, sum}
-use Rattle.arith.specs.Sums.{sumTo, countTo, bit}
+use Rattle.arith.specs.Lists.{consIf, count, elem, filter, pairs, range, sum}
+use Rattle.arith.specs.Sums.{anyTo, sumTo, countTo, bit}
 use Rattle.arith.proofs.ListSums.{sum-append, sum-map, count-sum}
 use Rattle.arith.proofs.Range.{filter-last}
-use Rattle.arith.proofs.Sums.{countTo-ext, sumTo-ext, sumTo-first, sumTo-add}
+use Rattle.arith.proofs.Sums.{anyTo-first, countTo-ext, sumTo-ext, sumTo-first, sumTo-add}
 
 pub sum-places : {A : Type 0} (d : A) (f : A → ℕ) (xs : List A) → sum (map f xs) ≡ sumTo (λ i. f (getD xs i d)) (length xs)
 unfolding sumTo
@@ -21,6 +22,11 @@ sum-places d f (x ∷ xs) = ap (λ s. f x + s) (sum-places d f xs) ∙ sym (sumT
 
 pub count-places : {A : Type 0} (d : A) (p : A → Bool) (xs : List A) → count p xs ≡ countTo (λ i. p (getD xs i d)) (length xs)
 count-places d p xs = count-sum p xs ∙ sum-places d (λ x. bit (p x)) xs
+
+pub elem-places : (x : ℕ) (xs : List ℕ) → elem x xs ≡ anyTo (λ i. eqb (getD xs i 0) x) (length xs)
+unfolding anyTo
+elem-places x [] = refl
+elem-places x (y ∷ ys) = ap (λ b. eqb y x || b) (elem-places x ys) ∙ sym (anyTo-first (λ i. eqb (getD (y ∷ ys) i 0) x) (length ys))
 
 -- the pairs at places i < j
 pub pairs-places : (d : ℕ) (f : ℕ × ℕ → ℕ) (xs : List ℕ) → sum (map f (pairs xs)) ≡ sumTo (λ j. sumTo (λ i. f (getD xs i d, getD xs j d)) j) (length xs)

@@ -1,5 +1,5 @@
 -- The laws of `sumTo`, of counts, and of lists filled by a loop. Assumes nothing.
-use mathlib.Core.Bool.{Bool, cond, false, or-false, or-true, true, true≢false, _||_}
+use mathlib.Core.Bool.{_&&_, and-or-distrib-right, Bool, cond, false, or-assoc, or-false, or-true, true, true≢false, _||_}
 use mathlib.Core.List.{_++_, [], List, _∷_}
 use mathlib.Core.Logic.{inl, inr, _≢_, ⊎-elim}
 use mathlib.Core.Path.{ap, ap₂, refl, sym, _∙_, _≡_}
@@ -12,7 +12,7 @@ use borrow.Author.Tests.{eqb-true}
 use lib.Dec.{eqb}
 use lib.ListN.{getD, getD-replicate, length, length-append, length-replicate, length-set, List·getD-append, replicate, set, take}
 use lib.Seq.{ext-getD, getD-at, getD-set-other, getD-set-same, take-suc}
-use Rattle.arith.proofs.Tests.{each, each-at, test}
+use Rattle.arith.proofs.Tests.{and-true, each, each-at, eqb-same, same-test, test}
 use Rattle.arith.specs.Sums.{anyTo, bit, countTo, sumTo, tabulate}
 use Rattle.arith.specs.inside.Fill.{fillTo}
 
@@ -191,16 +191,44 @@ pub anyTo-cat : (p : ℕ → Bool) (m n : ℕ) → anyTo p (m + n) ≡ anyTo p m
 unfolding anyTo
 anyTo-cat p m zero = ap (anyTo p) (add-zero m) ∙ sym (or-false (anyTo p m))
 anyTo-cat p m (suc n) =
-    ap (anyTo p) (add-suc m n) ∙ ap (λ b. b || p (m + n)) (anyTo-cat p m n) ∙ either (anyTo p m) (anyTo (λ i. p (m + i)) n) (p (m + n))
-  where
-    either : (a b c : Bool) → (a || b) || c ≡ a || (b || c)
-    either true b c = refl
-    either false b c = refl
+    ap (anyTo p) (add-suc m n) ∙ ap (λ b. b || p (m + n)) (anyTo-cat p m n) ∙ or-assoc (anyTo p m) (anyTo (λ i. p (m + i)) n) (p (m + n))
+
+pub anyTo-first : (p : ℕ → Bool) (n : ℕ) → anyTo p (suc n) ≡ p 0 || anyTo (λ i. p (suc i)) n
+unfolding anyTo
+anyTo-first p zero = sym (or-false (p 0))
+anyTo-first p (suc n) = ap (λ b. b || p (suc n)) (anyTo-first p n) ∙ or-assoc (p 0) (anyTo (λ i. p (suc i)) n) (p (suc n))
 
 pub anyTo-ext : (p q : ℕ → Bool) (n : ℕ) → ((i : ℕ) → i < n → p i ≡ q i) → anyTo p n ≡ anyTo q n
 unfolding anyTo
 anyTo-ext p q zero h = refl
 anyTo-ext p q (suc n) h = rw (anyTo-ext p q n (λ i k. h i (omega arith)), h n (omega arith))
+
+-- a number that passes one of two tests
+pub anyTo-or : (p q : ℕ → Bool) (n : ℕ) → anyTo (λ i. p i || q i) n ≡ anyTo p n || anyTo q n
+unfolding anyTo
+anyTo-or p q zero = refl
+anyTo-or p q (suc n) = ap (λ b. b || (p n || q n)) (anyTo-or p q n) ∙ swap (anyTo p n) (anyTo q n) (p n) (q n)
+  where
+    swap : (a b c d : Bool) → (a || b) || (c || d) ≡ (a || c) || (b || d)
+    swap true b c d = refl
+    swap false true true d = refl
+    swap false true false d = refl
+    swap false false c d = refl
+
+-- one number alone
+anyTo-one : (p : ℕ → Bool) (n k : ℕ) → k < n → anyTo (λ i. eqb i k && p i) n ≡ p k
+anyTo-one p n k h = same-test _ (p k)
+    (λ e.
+    let s = some-of (λ i. eqb i k && p i) n e in
+    let r = and-true (eqb (s .at) k) (p (s .at)) (s .passes) in
+    ap p (sym (eqb-true (s .at) k (r .0))) ∙ r .1)
+    (λ e. anyTo-here (λ i. eqb i k && p i) n k h (rw (eqb-same k, e)))
+
+-- one number more
+pub anyTo-with : (p q : ℕ → Bool) (n k : ℕ) → k < n → anyTo (λ i. (eqb i k || p i) && q i) n ≡ q k || anyTo (λ i. p i && q i) n
+anyTo-with p q n k h =
+    anyTo-ext _ _ n (λ i _. and-or-distrib-right (eqb i k) (p i) (q i)) ∙ anyTo-or (λ i. eqb i k && q i) (λ i. p i && q i) n
+    ∙ ap (λ b. b || anyTo (λ i. p i && q i) n) (anyTo-one q n k h)
 
 -- ---- tables
 

@@ -1,6 +1,6 @@
 -- The list of the walks has every walk, and each once; so has that of the shortest. Assumes nothing.
-use mathlib.Core.Bool.{Bool, true, true≢false}
-use mathlib.Core.List.{[], List, List·Memᴰ, List·Memᴰ·cases-cons, List·Memᴰ·head, List·Memᴰ·not-nil, List·Memᴰ·tail, map, Memᴰ·cast, Memᴰ·map, Memᴰ·of-map, tail-eq-of-cons-eq, _∷_}
+use mathlib.Core.Bool.{Bool}
+use mathlib.Core.List.{[], List, List·Memᴰ, List·Memᴰ·cases-cons, List·Memᴰ·head, List·Memᴰ·not-nil, map, Memᴰ·cast, Memᴰ·map, Memᴰ·of-map, tail-eq-of-cons-eq, _∷_}
 use mathlib.Core.Logic.{inl, inr}
 use mathlib.Core.Path.{ap, refl, sym, _∙_, _≡_}
 use Prim.Native.Nat.{suc, suc-le-suc, zero, zero-le, ℕ, _≤_}
@@ -11,7 +11,7 @@ use lib.Dec.{eqb}
 use lib.ListN.{length}
 use Rattle.arith.proofs.Filter.{filter-in, mem-filter}
 use Rattle.arith.proofs.Least.{leastFrom-le, leastFrom-passes}
-use Rattle.arith.proofs.Members.{concat-in, distinct-concat, distinct-filter, distinct-map, mem-concat}
+use Rattle.arith.proofs.Members.{any-mem, concat-in, distinct-concat, distinct-filter, distinct-map, mem-any, mem-concat}
 use Rattle.arith.proofs.Tests.{eqb-same, test}
 use Rattle.arith.specs.Lists.{Distinct, filter, leastFrom, nonEmpty}
 use Rattle.ego.specs.Graph.{distance, Graph, Shortest, shortest, stay, step, Walk, walks}
@@ -72,14 +72,6 @@ module _ (g : Graph) (h : List ℕ) where
       (filter (g u) h) (distinct-filter (g u) h d)
 
   -- the shortest
-
-  any-mem : {A : Type 0} {x : A} {xs : List A} → List·Memᴰ x xs → nonEmpty xs ≡ true
-  any-mem (List·Memᴰ·head e) = refl
-  any-mem (List·Memᴰ·tail m) = refl
-
-  mem-any : {A : Type 0} (xs : List A) → nonEmpty xs ≡ true → (x : A) × List·Memᴰ x xs
-  mem-any [] e = absurd (true≢false (sym e))
-  mem-any (x ∷ xs) e = (x, List·Memᴰ·head refl)
 
   pub distance-le : (u v : ℕ) {l : List ℕ} → Walk g h u v l → suc (distance g h u v) ≤ length l
   unfolding distance

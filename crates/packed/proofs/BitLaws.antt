@@ -158,7 +158,7 @@ unfolding digit
 digit-zero k = rw (zero-div (2 ^ k))
 
 -- zeros, and past them
-zero-at : (m j : ℕ) → _≡_ {A = ℕ} (getD (replicate m 0) j 0) 0
+pub zero-at : (m j : ℕ) → _≡_ {A = ℕ} (getD (replicate m 0) j 0) 0
 zero-at m j = elim (decLt j m) [
   | yes h ↦ getD-replicate m j 0 0 h
   | no h ↦ List·getD-eq-default (replicate m 0) 0 (omega (arith, length-replicate {A = ℕ} m 0))

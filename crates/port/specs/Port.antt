@@ -1,10 +1,12 @@
--- What the port answers as one number: of a list, with everything lent, of the next change, of the record that counts, and of the first conflict. Assumes nothing.
+-- What the port answers as one number: of a list, with everything lent, of the next change, of the record that counts, of the first conflict, and of the nearest
+-- listed post. Assumes nothing.
 use mathlib.Core.Bool.{cond, true}
 use mathlib.Core.List.{List}
 use mathlib.Core.Path.{_≡_}
-use Prim.Native.Nat.{ℕ, _^_, _<_}
+use Prim.Native.Nat.{ℕ, _+_, _*_, _^_, _<_}
 use denote.Ref.{now}
 use Rattle.merge.specs.Conflict.{Answer as Conflicting}
+use Rattle.nearest.specs.Nearest.{Answer as Nearby}
 use Rattle.packed.specs.Pairs.{maxNodes, pairIndex}
 use Rattle.state.specs.Lent.{atEntry, atExit, Moments}
 use Rattle.state.specs.Refusal.{oneNumber}
@@ -58,3 +60,11 @@ asOneConflict x = oneNumber (x .refusal) (cond (x .some) (pairIndex (x .a) (x .b
 -- its pair, where there is one, is of two nodes, a below b
 abbrev pub NamesTwo : Conflicting → Type 0
 NamesTwo x = x .some ≡ true → (x .a < x .b) × (x .b < maxNodes)
+
+-- the nearest listed post: its hop count times 65,536 and the post, and 2 ^ 32 for none
+abbrev pub asOneNearest : Nearby → ℕ
+asOneNearest x = oneNumber (x .refusal) (cond (x .some) (x .hops * 65536 + x .node) (2 ^ 32))
+
+-- its post, where there is one, is a node
+abbrev pub NamesOne : Nearby → Type 0
+NamesOne x = x .some ≡ true → x .node < maxNodes

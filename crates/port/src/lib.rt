@@ -6,6 +6,8 @@ use merge::conflict::Conflict;
 use merge::conflict::first_conflict;
 use merge::pinned::reconcile_pinned;
 use merge::reconcile::reconcile;
+use nearest::listed::nearest_listed;
+use nearest::search::Nearest;
 use packed::edges::index;
 use preview::preview::preview_add;
 use preview::preview::preview_remove;
@@ -25,6 +27,7 @@ ghost use Rattle.merge.specs.BroughtLent.{broughtAtEntry};
 ghost use Rattle.merge.specs.Conflict.{conflictCall, numbersOf as conflictNumbers};
 ghost use Rattle.merge.specs.Pinned.{pinnedCall};
 ghost use Rattle.merge.specs.Reconcile.{reconcileCall};
+ghost use Rattle.nearest.specs.Nearest.{answerOf as nearestAnswer, numbersOf as nearestNumbers};
 ghost use Rattle.preview.specs.Preview.{previewAddCall, previewed, previewRemoveCall};
 ghost use Rattle.schedule.specs.Change.{nextOf, numbersOf};
 ghost use Rattle.schedule.specs.Sheet.{loadAtCall, writeAtCall};
@@ -34,7 +37,7 @@ ghost use Rattle.state.specs.Outcome.{left};
 ghost use Rattle.state.specs.Refusal.{oneNumber};
 ghost use Rattle.state.specs.Lent.{atEntry, atExit};
 ghost use Rattle.calls.specs.Snapshot.{loadCall, written, writeCall};
-ghost use Rattle.port.specs.Port.{asOneChange, asOneConflict, asOneRecord, NamesTwo, atPortEntry, atPortExit, portEntries, portList};
+ghost use Rattle.port.specs.Port.{asOneChange, asOneConflict, asOneNearest, asOneRecord, NamesOne, NamesTwo, atPortEntry, atPortExit, portEntries, portList};
 
 // Loads a sheet.
 #[no_mangle]
@@ -155,6 +158,29 @@ pub extern "C" fn fj_port_conflict(
     ensures { λ r. ⌜ r ≡ asOneConflict (conflictNumbers (conflictCall (now (links .entry)) n (broughtAtEntry pins theirs «their_pins» original))) ⌝ }
 {
     number_of_conflict(first_conflict(links, n as usize, pins, theirs, their_pins, original))
+}
+
+// Stands for no post, where a hop count and a post would stand.
+const NO_POST: u64 = 4294967296;
+
+// The nearest listed post as one number: its hop count times 65,536 and the post, or that there is none, or 2^64 less the refusal number.
+fn number_of_nearest(nearest: Nearest) -> u64
+    requires { ⌜ NamesOne (nearestNumbers nearest) ⌝ }
+    ensures { λ r. ⌜ r ≡ asOneNearest (nearestNumbers nearest) ⌝ }
+{
+    match nearest {
+        Nearest::At { node, hops } => hops as u64 * 65536 + node as u64,
+        Nearest::NoneWithin => NO_POST,
+        Nearest::Refused { refusal } => one_number(refusal, NO_POST),
+    }
+}
+
+// The listed post reachable over the fewest links, within a limit of hops.
+#[no_mangle]
+pub extern "C" fn fj_port_nearest(links: &[u8], n: u64, post: u64, listed: &[u64], hops: u8) -> u64
+    ensures { λ r. ⌜ r ≡ asOneNearest (nearestAnswer (now (links .entry)) n post (now (listed .entry)) hops) ⌝ }
+{
+    number_of_nearest(nearest_listed(links, n as usize, post as usize, listed, hops))
 }
 
 // What adding a link would change, post by post.

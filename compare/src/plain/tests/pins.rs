@@ -4,7 +4,7 @@ use super::{Board, BOTH};
 use crate::calls::Calls;
 use crate::plain::packing::{bit, pair_count, pairs, put_bit};
 use crate::rng::Rng;
-use crate::tuned::Tuned;
+use crate::tuned::BY_ROWS;
 
 const BOARDS: usize = 3_000;
 /// The answer where there is no conflict.
@@ -64,7 +64,7 @@ impl Brought {
 }
 
 fn versions() -> [&'static dyn Calls; 2] {
-    [&BOTH[0], &Tuned]
+    [&BOTH[0], &BY_ROWS]
 }
 
 /// A buffer of a bit for each pair, of which about so many in a hundred are 1, and any spare bits.

@@ -6,7 +6,7 @@ use crate::plain::graph::Graph;
 use crate::plain::limits::{MAX_DEGREE, UNIT};
 use crate::plain::packing::{pair_count, pair_index, put_bit};
 use crate::rng::Rng;
-use crate::tuned::Tuned;
+use crate::tuned::BY_ROWS;
 
 const BOARDS: usize = 40;
 const ONE: i64 = UNIT as i64;
@@ -54,7 +54,7 @@ fn changes(edit: Edit, board: &Board, a: u64, b: u64) -> Vec<i64> {
     let [paths, derived] = BOTH.map(|plain| edit.preview(&plain, board, a, b));
     assert_eq!(paths.0, 0);
     assert_eq!(derived, paths);
-    assert_eq!(edit.preview(&Tuned, board, a, b), paths);
+    assert_eq!(edit.preview(&BY_ROWS, board, a, b), paths);
     paths.1
 }
 
@@ -115,7 +115,7 @@ fn an_edge_across_a_ring_of_4_lowers_every_score() {
 fn a_refused_preview_leaves_the_changes() {
     let full: Vec<(u64, u64)> = (1..=40).map(|q| (0, q)).collect();
     let board = Board::with(&BOTH[0], 42, &full);
-    for version in BOTH.iter().map(|plain| plain as &dyn Calls).chain([&Tuned as &dyn Calls]) {
+    for version in BOTH.iter().map(|plain| plain as &dyn Calls).chain([&BY_ROWS as &dyn Calls]) {
         for (edit, a, b, due) in [
             (Edit::Add, 0, 42, 4),
             (Edit::Remove, 42, 42, 4),

@@ -1,0 +1,16 @@
+pub mod AnswerLaws
+pub mod CallLaws
+pub mod Examples
+pub mod LevelLaws
+pub mod LinkLaws
+pub mod ListedLaws
+pub mod MirrorLaws
+pub mod NearestChanges
+pub mod NearestListed
+pub mod PathLaws
+pub mod SearchLaws
+pub mod SetLaws
+pub mod Spare
+pub mod SpreadLaws
+pub mod StripLaws
+pub mod TableLaws
