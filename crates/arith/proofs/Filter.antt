@@ -9,10 +9,10 @@ use borrow.Author.Tests.{eq-eqb, ne_eqb}
 use lib.Dec.{eqb}
 use lib.ListN.{length}
 use Rattle.arith.proofs.Tests.{test}
-use Rattle.arith.specs.Lists.{consIf, count, Distinct, filter, nonEmpty, pairs}
+use Rattle.arith.specs.Lists.{cons_if, count, Distinct, filter, non_empty, pairs}
 
 module _ {A : Type 0} where
-  pub cons_if_cond : (b : Bool) (x : A) → cond b (x ∷ []) [] ≡ consIf b x []
+  pub cons_if_cond : (b : Bool) (x : A) → cond b (x ∷ []) [] ≡ cons_if b x []
   cons_if_cond true x = refl
   cons_if_cond false x = refl
 
@@ -52,7 +52,7 @@ module _ {A : Type 0} where
     | inr e ↦ rw e (filter-filter f f' xs)
   ]
 
-  pub any_filter : (f : A → Bool) (xs : List A) {x : A} → Memᴰ x xs → f x ≡ true → nonEmpty (filter f xs) ≡ true
+  pub any_filter : (f : A → Bool) (xs : List A) {x : A} → Memᴰ x xs → f x ≡ true → non_empty (filter f xs) ≡ true
   any_filter f [] m e = absurd (mathlib.Core.List.Memᴰ.not-nil m)
   any_filter f (y ∷ ys) m e =
       elim (test (f y)) [
@@ -65,7 +65,7 @@ filter-append q [] ys = refl
 filter-append q (x ∷ xs) ys = elim (test (q x)) [ inl e ↦ rw (e, filter-append q xs ys) | inr e ↦ rw e (filter-append q xs ys) ]
 
 module _ {A : Type 0} where
-  pub any_map : {B : Type 0} (F : A → B) (xs : List A) → nonEmpty (map F xs) ≡ nonEmpty xs
+  pub any_map : {B : Type 0} (F : A → B) (xs : List A) → non_empty (map F xs) ≡ non_empty xs
   any_map F [] = refl
   any_map F (x ∷ xs) = refl
 

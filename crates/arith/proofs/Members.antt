@@ -11,18 +11,18 @@ use lib.Dec.{eqb}
 use lib.ListN.{length}
 use Rattle.arith.proofs.Filter.{mem_filter}
 use Rattle.arith.proofs.Tests.{each, test}
-use Rattle.arith.specs.Lists.{concatMap, Distinct, elem, filter, nonEmpty}
+use Rattle.arith.specs.Lists.{concat_map, Distinct, elem, filter, non_empty}
 
 module _ {A B : Type 0} where
-  pub concat_ext : {F F' : A → List B} (xs : List A) → ((x : A) → F x ≡ F' x) → concatMap F xs ≡ concatMap F' xs
-  concat_ext xs e = ap (λ F. concatMap F xs) (fun_ext e)
+  pub concat_ext : {F F' : A → List B} (xs : List A) → ((x : A) → F x ≡ F' x) → concat_map F xs ≡ concat_map F' xs
+  concat_ext xs e = ap (λ F. concat_map F xs) (fun_ext e)
 
-  pub concat_mem : (F F' : A → List B) (xs : List A) → ((x : A) → Memᴰ x xs → F x ≡ F' x) → concatMap F xs ≡ concatMap F' xs
+  pub concat_mem : (F F' : A → List B) (xs : List A) → ((x : A) → Memᴰ x xs → F x ≡ F' x) → concat_map F xs ≡ concat_map F' xs
   concat_mem F F' [] e = refl
   concat_mem F F' (x ∷ xs) e = rw (e x (Memᴰ.head refl), concat_mem F F' xs (λ y m. e y (Memᴰ.tail m)))
 
 module _ {A B : Type 0} (F : A → List B) where
-  pub mem_concat : (xs : List A) {y : B} → Memᴰ y (concatMap F xs) → (x : A) × Memᴰ x xs × Memᴰ y (F x)
+  pub mem_concat : (xs : List A) {y : B} → Memᴰ y (concat_map F xs) → (x : A) × Memᴰ x xs × Memᴰ y (F x)
   mem_concat [] m = absurd (Memᴰ.not-nil m)
   mem_concat (x ∷ xs) {y} m =
       elim (Memᴰ.append_cases (F x) m) [
@@ -30,20 +30,20 @@ module _ {A B : Type 0} (F : A → List B) where
         | inr j ↦ let (z, a, b) = mem_concat xs j in (z, Memᴰ.tail a, b)
       ]
 
-  pub concat_in : (xs : List A) {x : A} {y : B} → Memᴰ x xs → Memᴰ y (F x) → Memᴰ y (concatMap F xs)
+  pub concat_in : (xs : List A) {x : A} {y : B} → Memᴰ x xs → Memᴰ y (F x) → Memᴰ y (concat_map F xs)
   concat_in [] m i = absurd (Memᴰ.not-nil m)
   concat_in (z ∷ zs) {x} {y} m i =
       elim (Memᴰ.cases_cons m) [
-        | inl e ↦ Memᴰ.append_left (concatMap F zs) (subst (λ w. Memᴰ y (F w)) e i)
+        | inl e ↦ Memᴰ.append_left (concat_map F zs) (subst (λ w. Memᴰ y (F w)) e i)
         | inr j ↦ Memᴰ.append_right (F z) (concat_in zs j i)
       ]
 
 module _ {A : Type 0} where
-  pub any_mem : {x : A} {xs : List A} → Memᴰ x xs → nonEmpty xs ≡ true
+  pub any_mem : {x : A} {xs : List A} → Memᴰ x xs → non_empty xs ≡ true
   any_mem (Memᴰ.head e) = refl
   any_mem (Memᴰ.tail m) = refl
 
-  pub mem_any : (xs : List A) → nonEmpty xs ≡ true → (x : A) × Memᴰ x xs
+  pub mem_any : (xs : List A) → non_empty xs ≡ true → (x : A) × Memᴰ x xs
   mem_any [] e = absurd (true≢false (sym e))
   mem_any (x ∷ xs) e = (x, Memᴰ.head refl)
 
@@ -83,8 +83,8 @@ module _ {A B : Type 0} where
       (λ m. let (a, i, e) = Memᴰ.of_map F xs m in d.0 (Memᴰ.cast (inj x a (sym e)) i), distinct_map F inj xs d.1)
 
   pub distinct_concat : (F : A → List B) → ((x : A) → Distinct (F x))
-      → ((x y : A) (z : B) → Memᴰ z (F x) → Memᴰ z (F y) → x ≡ y) → (xs : List A) → Distinct xs → Distinct (concatMap F xs)
+      → ((x y : A) (z : B) → Memᴰ z (F x) → Memᴰ z (F y) → x ≡ y) → (xs : List A) → Distinct xs → Distinct (concat_map F xs)
   distinct_concat F each far [] d = tt
   distinct_concat F each far (x ∷ xs) d =
-      distinct_append (F x) (concatMap F xs) (each x) (distinct_concat F each far xs d.1)
+      distinct_append (F x) (concat_map F xs) (each x) (distinct_concat F each far xs d.1)
       (λ z i j. let (y, a, b) = mem_concat F xs j in d.0 (Memᴰ.cast (far x y z i b) a))

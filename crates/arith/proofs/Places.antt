@@ -9,7 +9,7 @@ use native.Mathlib.Omega.{arith}
 use lib.Dec.{eqb}
 use lib.ListN.{length, get_or, length-append, get_or-append}
 use lib.Seq.{get_or-append-add}
-use Rattle.arith.specs.Lists.{consIf, count, elem, filter, pairs, range, sum}
+use Rattle.arith.specs.Lists.{cons_if, count, elem, filter, pairs, range, sum}
 use Rattle.arith.specs.Sums.{any_to, sum_to, count_to, bit}
 use Rattle.arith.proofs.ListSums.{sum-append, sum-map, count_sum}
 use Rattle.arith.proofs.Range.{filter_last}
@@ -47,26 +47,26 @@ count_before f q zero j h = absurd (omega arith)
 count_before f q (suc n) j h =
     let xs : List ℕ = filter f (range 0 n) in
     let all = filter_last f n in
-    let long = ap length all ∙ length-append xs (consIf (f n) n []) in
+    let long = ap length all ∙ length-append xs (cons_if (f n) n []) in
     let at : (i : ℕ) → i < length xs → get_or (filter f (range 0 (suc n))) i 0 ≡ get_or xs i 0 =
-    λ i l. ap (λ ys. get_or ys i 0) all ∙ get_or-append xs (consIf (f n) n []) 0 i l in
+    λ i l. ap (λ ys. get_or ys i 0) all ∙ get_or-append xs (cons_if (f n) n []) 0 i l in
     elim (dec_lt j (length xs)) [
       | yes l ↦ ap (λ m. count q (filter f (range 0 m))) (at j l) ∙ count_before f q n j l
           ∙ count_to_ext _ _ j (λ i b. ap q (sym (at i (omega arith))))
       | no l ↦
-          let last : length (consIf (f n) n []) ≡ 1 = omega (arith, long, one_most (f n)) in
+          let last : length (cons_if (f n) n []) ≡ 1 = omega (arith, long, one_most (f n)) in
           let end : length xs ≡ j = omega (arith, long, last) in
           let place : j ≡ length xs + 0 = omega (arith, end) in
           let here : get_or (filter f (range 0 (suc n))) j 0 ≡ n =
-          ap₂ (λ ys i. get_or ys i 0) all place ∙ get_or-append-add xs (consIf (f n) n []) 0 0 ∙ only (f n) last in
+          ap₂ (λ ys i. get_or ys i 0) all place ∙ get_or-append-add xs (cons_if (f n) n []) 0 0 ∙ only (f n) last in
           ap (λ m. count q (filter f (range 0 m))) here ∙ count_places 0 q xs ∙ ap (count_to (λ i. q (get_or xs i 0))) end
           ∙ count_to_ext _ _ j (λ i b. ap q (sym (at i (omega arith))))
     ]
   where
-    one_most : (b : Bool) → length (consIf b n []) ≤ 1
+    one_most : (b : Bool) → length (cons_if b n []) ≤ 1
     one_most true = omega arith
     one_most false = omega arith
 
-    only : (b : Bool) → length (consIf b n []) ≡ 1 → get_or (consIf b n []) 0 0 ≡ n
+    only : (b : Bool) → length (cons_if b n []) ≡ 1 → get_or (cons_if b n []) 0 0 ≡ n
     only true e = refl
     only false e = absurd (omega arith)

@@ -13,7 +13,7 @@ use lib.Dec.{eqb}
 use lib.ListN.{get_or, length, length-append}
 use Rattle.arith.proofs.Filter.{filter-append, filter_none}
 use Rattle.arith.proofs.Tests.{eqb_same, test}
-use Rattle.arith.specs.Lists.{concatMap, consIf, count, Distinct, filter, range}
+use Rattle.arith.specs.Lists.{concat_map, cons_if, count, Distinct, filter, range}
 use Rattle.arith.specs.Sums.{count_to, sum_to, tabulate}
 
 abbrev pub Up : ℕ → List ℕ → Type 0
@@ -71,7 +71,7 @@ unfolding tabulate
 tabulate_range zero = refl
 tabulate_range (suc n) = ap (λ l. l ++ n ∷ []) (tabulate_range n) ∙ sym (range_last 0 n ∙ ap (λ i. range 0 n ++ i ∷ []) (zero-add n))
 
-pub filter_last : (q : ℕ → Bool) (n : ℕ) → filter q (range 0 (suc n)) ≡ filter q (range 0 n) ++ consIf (q n) n []
+pub filter_last : (q : ℕ → Bool) (n : ℕ) → filter q (range 0 (suc n)) ≡ filter q (range 0 n) ++ cons_if (q n) n []
 filter_last q n = ap (filter q) (range_last 0 n ∙ ap (λ i. range 0 n ++ i ∷ []) (zero-add n)) ∙ filter-append q (range 0 n) (n ∷ [])
 
 -- a search that stood at q finds none before a
@@ -92,7 +92,7 @@ filter_hit f i q a h l none some =
     let at : i + (a - i) ≡ a = omega arith in
     ap (λ m. filter f (range i m)) all ∙ ap (filter f) (range_last i (a - i) ∙ ap (λ x. range i (a - i) ++ x ∷ []) at)
     ∙ filter-append f (range i (a - i)) (a ∷ [])
-    ∙ ap₂ (λ l t. l ++ consIf t a []) (filter_skip f i q a h l none) some
+    ∙ ap₂ (λ l t. l ++ cons_if t a []) (filter_skip f i q a h l none) some
 
 abbrev pub times : ℕ → List ℕ → ℕ
 times v h = count (λ x. eqb x v) h
@@ -126,22 +126,22 @@ times_left f v (x ∷ xs) e =
     ]
 
 module _ {B : Type 0} (F : ℕ → List B) (v : ℕ) (z : (x : ℕ) → x ≢ v → F x ≡ []) (q : ℕ → Bool) where
-  pub concat_none : (h : List ℕ) → times v h ≡ 0 → concatMap F (filter q h) ≡ []
+  pub concat_none : (h : List ℕ) → times v h ≡ 0 → concat_map F (filter q h) ≡ []
   concat_none [] o = refl
   concat_none (x ∷ xs) o =
       elim (test (eqb x v)) [
         | inl e ↦ absurd (suc-ne-zero _ (rw e at o))
-        | inr e ↦ let ih : concatMap F (filter q xs) ≡ [] = concat_none xs (rw e at o) in
+        | inr e ↦ let ih : concat_map F (filter q xs) ≡ [] = concat_none xs (rw e at o) in
             elim (test (q x)) [ inl d ↦ rw (d, z x (eqb-false x v e)) ih | inr d ↦ rw d ih ]
       ]
 
-  pub concat_once : (h : List ℕ) → times v h ≡ 1 → concatMap F (filter q h) ≡ cond (q v) (F v) []
+  pub concat_once : (h : List ℕ) → times v h ≡ 1 → concat_map F (filter q h) ≡ cond (q v) (F v) []
   concat_once [] o = absurd (suc-ne-zero 0 (sym o))
   concat_once (x ∷ xs) o =
       elim (test (eqb x v)) [
-        | inl e ↦ let ih : concatMap F (filter q xs) ≡ [] = concat_none xs (suc_inj (rw e at o)) in
+        | inl e ↦ let ih : concat_map F (filter q xs) ≡ [] = concat_none xs (suc_inj (rw e at o)) in
             rw (eqb-true x v e) (elim (test (q v)) [ inl d ↦ rw (d, ih) (append-nil (F v)) | inr d ↦ rw d ih ])
-        | inr e ↦ let ih : concatMap F (filter q xs) ≡ cond (q v) (F v) [] = concat_once xs (rw e at o) in
+        | inr e ↦ let ih : concat_map F (filter q xs) ≡ cond (q v) (F v) [] = concat_once xs (rw e at o) in
             elim (test (q x)) [ inl d ↦ rw (d, z x (eqb-false x v e)) ih | inr d ↦ rw d ih ]
       ]
 
@@ -190,6 +190,6 @@ pub count_range : (q : ℕ → Bool) (n : ℕ) → count q (range 0 n) ≡ count
 unfolding sum_to
 count_range q zero = refl
 count_range q (suc n) =
-    ap length (filter_last q n) ∙ length-append (filter q (range 0 n)) (consIf (q n) n [])
-    ∙ ap (λ m. m + length (consIf (q n) n [])) (count_range q n)
+    ap length (filter_last q n) ∙ length-append (filter q (range 0 n)) (cons_if (q n) n [])
+    ∙ ap (λ m. m + length (cons_if (q n) n [])) (count_range q n)
     ∙ elim (test (q n)) [ inl e ↦ rw e | inr e ↦ rw e ]

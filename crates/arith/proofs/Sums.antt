@@ -14,7 +14,7 @@ use lib.ListN.{get_or, get_or-replicate, length, length-append, length-replicate
 use lib.Seq.{ext_get_or, get_or_at, get_or-set_other, get_or-set_same, take-suc}
 use Rattle.arith.proofs.Tests.{and-true, each, each_at, eqb_same, same_test, test}
 use Rattle.arith.specs.Sums.{any_to, bit, count_to, sum_to, tabulate}
-use Rattle.arith.specs.Inside.Fill.{fillTo}
+use Rattle.arith.specs.Inside.Fill.{fill_to}
 
 pub sum_to_none : (f : ℕ → ℕ) → sum_to f 0 ≡ 0
 unfolding sum_to
@@ -110,40 +110,40 @@ count_gain p q n k l a b h =
 -- ---- a loop that stores f i at place i
 
 module _ {A : Type 0} where
-  pub fill_to_none : (f : ℕ → A) (l : List A) → fillTo f l 0 ≡ l
-  unfolding fillTo
+  pub fill_to_none : (f : ℕ → A) (l : List A) → fill_to f l 0 ≡ l
+  unfolding fill_to
   fill_to_none f l = refl
 
-  pub fill_step : (f : ℕ → A) (l : List A) (n : ℕ) {a : List A} {r : A} → a ≡ fillTo f l n → r ≡ f n → set a n r ≡ fillTo f l (n + 1)
-  unfolding fillTo
+  pub fill_step : (f : ℕ → A) (l : List A) (n : ℕ) {a : List A} {r : A} → a ≡ fill_to f l n → r ≡ f n → set a n r ≡ fill_to f l (n + 1)
+  unfolding fill_to
   fill_step f l n p q = rw add-one (ap₂ (λ (x : List A) (y : A). set x n y) p q)
 
-  pub fill_end : (f : ℕ → A) (l : List A) {i n : ℕ} {a : List A} → i ≤ n → n ≤ i → a ≡ fillTo f l i → a ≡ fillTo f l n
-  fill_end f l a b h = h ∙ ap (fillTo f l) (le_antisymm a b)
+  pub fill_end : (f : ℕ → A) (l : List A) {i n : ℕ} {a : List A} → i ≤ n → n ≤ i → a ≡ fill_to f l i → a ≡ fill_to f l n
+  fill_end f l a b h = h ∙ ap (fill_to f l) (le_antisymm a b)
 
-  pub length_fill_to : (f : ℕ → A) (l : List A) (n : ℕ) → length (fillTo f l n) ≡ length l
-  unfolding fillTo
+  pub length_fill_to : (f : ℕ → A) (l : List A) (n : ℕ) → length (fill_to f l n) ≡ length l
+  unfolding fill_to
   length_fill_to f l zero = refl
-  length_fill_to f l (suc n) = length-set (fillTo f l n) n (f n) ∙ length_fill_to f l n
+  length_fill_to f l (suc n) = length-set (fill_to f l n) n (f n) ∙ length_fill_to f l n
 
-  pub fill_length : (f : ℕ → A) (l : List A) (n : ℕ) {a : List A} → a ≡ fillTo f l n → length a ≡ length l
+  pub fill_length : (f : ℕ → A) (l : List A) (n : ℕ) {a : List A} → a ≡ fill_to f l n → length a ≡ length l
   fill_length f l n e = ap length e ∙ length_fill_to f l n
 
-  pub get_or_fill_to : (f : ℕ → A) (l : List A) (d : A) (n i : ℕ) → i < n → n ≤ length l → get_or (fillTo f l n) i d ≡ f i
-  unfolding fillTo
+  pub get_or_fill_to : (f : ℕ → A) (l : List A) (d : A) (n i : ℕ) → i < n → n ≤ length l → get_or (fill_to f l n) i d ≡ f i
+  unfolding fill_to
   get_or_fill_to f l d zero i h k = absurd (omega arith)
   get_or_fill_to f l d (suc n) i h k =
       ⊎_elim
-      (λ (e : i ≡ n). rw e (get_or-set_same (fillTo f l n) n (f n) d (omega (arith, length_fill_to f l n))))
-      (λ (b : i < n). get_or-set_other (fillTo f l n) n i (f n) d (ne_of_lt b) ∙ get_or_fill_to f l d n i b (omega arith))
+      (λ (e : i ≡ n). rw e (get_or-set_same (fill_to f l n) n (f n) d (omega (arith, length_fill_to f l n))))
+      (λ (b : i < n). get_or-set_other (fill_to f l n) n i (f n) d (ne_of_lt b) ∙ get_or_fill_to f l d n i b (omega arith))
       (eq-or-lt_of_le (omega arith))
 
   -- the places from n on are as they were
-  pub get_or_fill_to_past : (f : ℕ → A) (l : List A) (d : A) (n i : ℕ) → n ≤ i → get_or (fillTo f l n) i d ≡ get_or l i d
-  unfolding fillTo
+  pub get_or_fill_to_past : (f : ℕ → A) (l : List A) (d : A) (n i : ℕ) → n ≤ i → get_or (fill_to f l n) i d ≡ get_or l i d
+  unfolding fill_to
   get_or_fill_to_past f l d zero i h = refl
   get_or_fill_to_past f l d (suc n) i h =
-      get_or-set_other (fillTo f l n) n i (f n) d (λ e. omega arith) ∙ get_or_fill_to_past f l d n i (omega arith)
+      get_or-set_other (fill_to f l n) n i (f n) d (λ e. omega arith) ∙ get_or_fill_to_past f l d n i (omega arith)
 
 -- ---- a test that some number below n passes
 
@@ -272,18 +272,18 @@ module _ {A : Type 0} where
 
   -- a list that a loop filled as far as its elements were not right already
   pub fill_rest : (f : ℕ → A) (l : List A) (d : A) (n : ℕ) → n ≤ length l → ((i : ℕ) → n ≤ i → i < length l → get_or l i d ≡ f i)
-      → fillTo f l n ≡ tabulate f (length l)
+      → fill_to f l n ≡ tabulate f (length l)
   fill_rest f l d n h past =
       let long = length_fill_to f l n in
-      tabulate_is f d (fillTo f l n) (λ i b. elim (dec_lt i n) [
+      tabulate_is f d (fill_to f l n) (λ i b. elim (dec_lt i n) [
         | yes s ↦ get_or_fill_to f l d n i s h
         | no s ↦ get_or_fill_to_past f l d n i (omega arith) ∙ past i (omega arith) (omega (arith, long))
       ]) ∙ ap (tabulate f) long
 
   -- a list that a loop filled to its end
-  pub fill_table : (f : ℕ → A) (l : List A) (d : A) {i n : ℕ} {a : List A} → n ≡ length l → i ≤ n → n ≤ i → a ≡ fillTo f l i → a ≡ tabulate f n
+  pub fill_table : (f : ℕ → A) (l : List A) (d : A) {i n : ℕ} {a : List A} → n ≡ length l → i ≤ n → n ≤ i → a ≡ fill_to f l i → a ≡ tabulate f n
   fill_table f l d {i} {n} e a b h =
-      h ∙ ap (fillTo f l) (le_antisymm a b ∙ e) ∙ fill_rest f l d (length l) (le_refl (length l)) (λ k g i. absurd (omega arith)) ∙ ap (tabulate f) (sym e)
+      h ∙ ap (fill_to f l) (le_antisymm a b ∙ e) ∙ fill_rest f l d (length l) (le_refl (length l)) (λ k g i. absurd (omega arith)) ∙ ap (tabulate f) (sym e)
 
   pub tabulate_same : (x : A) (n : ℕ) → tabulate (λ i. x) n ≡ replicate n x
   tabulate_same x n =
@@ -301,7 +301,7 @@ module _ {A : Type 0} where
   pub record Filling (f : ℕ → A) (l₀ : List A) (end : ℕ) (l : List A) (i : ℕ) : Type 0 where
     pub most : i ≤ end
     pub all : end ≡ length l₀
-    pub done : l ≡ fillTo f l₀ i
+    pub done : l ≡ fill_to f l₀ i
 
   pub filling_none : (f : ℕ → A) (l : List A) → Filling f l (length l) l 0
   filling_none f l = record { most = zero-le; all = refl; done = sym (fill_to_none f l) }

@@ -4,14 +4,14 @@ use mathlib.Core.List.{List, [], ◌∷◌, ◌++◌, map, Memᴰ}
 
 module _ {A : Type 0} where
   -- x in front of the list, where the test passes
-  abbrev pub consIf : Bool → A → List A → List A
-  consIf true x xs = x ∷ xs
-  consIf false x xs = xs
+  abbrev pub cons_if : Bool → A → List A → List A
+  cons_if true x xs = x ∷ xs
+  cons_if false x xs = xs
 
   -- those that pass a test, in order
   abbrev pub filter : (A → Bool) → List A → List A
   filter f [] = []
-  filter f (x ∷ xs) = consIf (f x) x (filter f xs)
+  filter f (x ∷ xs) = cons_if (f x) x (filter f xs)
 
   -- how many pass a test
   abbrev pub count : (A → Bool) → List A → ℕ
@@ -27,15 +27,15 @@ module _ {A : Type 0} where
   Distinct [] = Unit {0}
   Distinct (x ∷ xs) = (Memᴰ x xs → ⊥) × Distinct xs
 
-  abbrev pub nonEmpty : List A → Bool
-  nonEmpty [] = false
-  nonEmpty (x ∷ xs) = true
+  abbrev pub non_empty : List A → Bool
+  non_empty [] = false
+  non_empty (x ∷ xs) = true
 
 module _ {A B : Type 0} where
   -- the lists that f makes of each element, one after the other
-  abbrev pub concatMap : (A → List B) → List A → List B
-  concatMap f [] = []
-  concatMap f (x ∷ xs) = f x ++ concatMap f xs
+  abbrev pub concat_map : (A → List B) → List A → List B
+  concat_map f [] = []
+  concat_map f (x ∷ xs) = f x ++ concat_map f xs
 
 abbrev pub sum : List ℕ → ℕ
 sum [] = 0

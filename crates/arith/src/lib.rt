@@ -1,1 +1,2 @@
 // Sums, counts, lists, digits and ranks: definitions in specs/, their laws in proofs/, and no code.
+#![tactic(auto)]

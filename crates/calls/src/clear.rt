@@ -1,15 +1,15 @@
 // The call that clears a state.
 ghost use Rattle.std.specs.Prelude.{◌≡◌};
 ghost use Rattle.state.specs.Outcome.{left};
-ghost use Rattle.state.specs.Lent.{at_entry, at_exit};
 ghost use Rattle.calls.specs.Clear.{clear_call};
+ghost use Rattle.state.specs.State.{state};
 
 use state::sizes::state_refusal;
 use state::{figures, marks};
 
 // No edges, all figures 0, all exact. The number of nodes is that of the figures.
 pub fn clear(edges: &mut [u8], figures: &mut [u64], marks: &mut [u8]) -> u64
-    ensures { left result (at_exit edges figures marks) ≡ clear_call (at_entry edges figures marks) }
+    ensures { left result (state edges.new figures.new marks.new) ≡ clear_call (state edges.old figures.old marks.old) }
 {
     let refusal = state_refusal(figures.len(), edges.len(), marks.len());
     if refusal != 0 {

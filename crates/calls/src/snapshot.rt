@@ -5,8 +5,8 @@ ghost use Rattle.packed.specs.Pairs.{max_nodes};
 ghost use Rattle.state.specs.Sizes.{edge_bytes};
 ghost use Rattle.state.specs.Refusal.{refusal, spare_set};
 ghost use Rattle.state.specs.Outcome.{left};
-ghost use Rattle.state.specs.Lent.{at_entry, at_exit};
 ghost use Rattle.calls.specs.Snapshot.{form_conditions, load_call, snapshot_byte, written, write_call};
+ghost use Rattle.state.specs.State.{state};
 
 use packed::edges::row_start;
 use packed::runs::run_of;
@@ -62,7 +62,7 @@ pub fn copy(to: &mut [u8], from: &[u8])
 
 // Takes the edges of a snapshot; every node takes its bound and becomes stale.
 pub fn load(edges: &mut [u8], figures: &mut [u64], marks: &mut [u8], snapshot: &[u8]) -> u64
-    ensures { left result (at_exit edges figures marks) ≡ load_call (at_entry edges figures marks) snapshot.now }
+    ensures { left result (state edges.new figures.new marks.new) ≡ load_call (state edges.old figures.old marks.old) snapshot.now }
 {
     let n = figures.len();
     let lengths = state_refusal(n, edges.len(), marks.len());
@@ -106,7 +106,7 @@ fn copy_pairs(to: &mut [u8], edges: &[u8], n: usize)
 
 // Writes the snapshot of a state to a buffer of exactly its length.
 pub fn write(edges: &[u8], figures: &[u64], marks: &[u8], snapshot: &mut [u8]) -> u64
-    ensures { written result snapshot.new ≡ write_call (at_entry edges figures marks) snapshot.old }
+    ensures { written result snapshot.new ≡ write_call (state edges.now figures.now marks.now) snapshot.old }
 {
     let n = figures.len();
     let size = state_refusal(n, edges.len(), marks.len());

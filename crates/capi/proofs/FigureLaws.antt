@@ -207,18 +207,18 @@ module _ (l nodes bounds : List ℕ) (taken : ℕ) where
   abbrev renewing : ℕ → List ℕ
   renewing i = renew_each nodes bounds taken (decoded (figure_count l) l) i
 
-  unfoldable pub renewedTo : ℕ → List ℕ
-  renewedTo i = encoded (renewing i)
+  unfoldable pub renewed_to : ℕ → List ℕ
+  renewed_to i = encoded (renewing i)
 
-  pub renew_none : Bytes l → length l ≡ 8 * figure_count l → l ≡ renewedTo 0
-  unfolding renewedTo
+  pub renew_none : Bytes l → length l ≡ 8 * figure_count l → l ≡ renewed_to 0
+  unfolding renewed_to
   renew_none b h = sym (ap encoded (renew_each_none nodes bounds taken (decoded (figure_count l) l)) ∙ bytes_back (figure_count l) l b h)
 
   length_renewing : (i : ℕ) → length (renewing i) ≡ figure_count l
   length_renewing i = length_renew_each nodes bounds taken (decoded (figure_count l) l) i ∙ length_decoded (figure_count l) l
 
-  pub length_renewed : (i : ℕ) {bytes : List ℕ} → bytes ≡ renewedTo i → length bytes ≡ 8 * figure_count l
-  unfolding renewedTo
+  pub length_renewed : (i : ℕ) {bytes : List ℕ} → bytes ≡ renewed_to i → length bytes ≡ 8 * figure_count l
+  unfolding renewed_to
   length_renewed i e = ap length e ∙ length_encoded (renewing i) ∙ ap (λ m. 8 * m) (length_renewing i)
 
   module _ (b : Bytes l) (count : ℕ) (fits : (i : ℕ) → i < count → get_or bounds i 0 < 2 ^ 64) where
@@ -227,10 +227,10 @@ module _ (l nodes bounds : List ℕ) (taken : ℕ) where
         renew_each_small nodes bounds taken (decoded (figure_count l) l) (2 ^ 64) i (λ j m. fits j (omega arith)) p
         (omega (arith, length_decoded (figure_count l) l)) (decoded_fits (figure_count l) l b p k)
 
-    pub renew_more : (i : ℕ) {bytes next : List ℕ} {figure x : ℕ} → i < count → bytes ≡ renewedTo i → get_or nodes i 0 < figure_count l
+    pub renew_more : (i : ℕ) {bytes next : List ℕ} {figure x : ℕ} → i < count → bytes ≡ renewed_to i → get_or nodes i 0 < figure_count l
         → figure ≡ figure_at bytes (get_or nodes i 0) → x ≡ figure_by (ltb i taken) figure (get_or bounds i 0)
-        → next ≡ with_bytes bytes (get_or nodes i 0) x 8 → next ≡ renewedTo (i + 1)
-    unfolding renewedTo
+        → next ≡ with_bytes bytes (get_or nodes i 0) x 8 → next ≡ renewed_to (i + 1)
+    unfolding renewed_to
     renew_more i {x = x} c e h f q w =
         let p = get_or nodes i 0 in
         let long : p < length (renewing i) = omega (arith, length_renewing i) in
@@ -238,6 +238,6 @@ module _ (l nodes bounds : List ℕ) (taken : ℕ) where
         w ∙ ap (λ b. with_bytes b p x 8) e ∙ figure_written (renewing i) p x long
         ∙ ap encoded (renew_each_more nodes bounds taken (decoded (figure_count l) l) i refl (q ∙ ap (λ y. figure_by (ltb i taken) y (get_or bounds i 0)) known))
 
-  pub renew_end : {i count : ℕ} {bytes : List ℕ} → i ≤ count → count ≤ i → bytes ≡ renewedTo i → bytes ≡ encoded (renewing count)
-  unfolding renewedTo
-  renew_end h k e = e ∙ ap renewedTo (le_antisymm h k)
+  pub renew_end : {i count : ℕ} {bytes : List ℕ} → i ≤ count → count ≤ i → bytes ≡ renewed_to i → bytes ≡ encoded (renewing count)
+  unfolding renewed_to
+  renew_end h k e = e ∙ ap renewed_to (le_antisymm h k)

@@ -1,11 +1,13 @@
 // The calls that a C program makes: include/fuortsjam.h declares them. The number of nodes is given, and the figures are bytes.
+#![tactic(auto)]
+
 pub mod figures;
 pub mod requests;
 
 ghost use Rattle.std.specs.Prelude.{◌≡◌};
 ghost use Rattle.state.specs.Outcome.{left};
-ghost use Rattle.state.specs.Lent.{at_entry, at_exit};
 ghost use Rattle.capi.specs.Calls.{fj_clear, fj_add, fj_remove, fj_score};
+ghost use Rattle.state.specs.State.{state};
 
 use crate::requests::{Request, on_bytes};
 use calls::score::score;
@@ -14,7 +16,7 @@ use state::refusal::one_number;
 // Clears the board.
 #[unsafe(no_mangle)]
 pub extern "C" fn fj_clear(n: u64, links: &mut [u8], figures: &mut [u8], marks: &mut [u8]) -> u64
-    ensures { left result (at_exit links figures marks) ≡ fj_clear n (at_entry links figures marks) }
+    ensures { left result (state links.new figures.new marks.new) ≡ fj_clear n (state links.old figures.old marks.old) }
 {
     on_bytes(n, links, figures, marks, Request::Clear, 0, 0)
 }
@@ -29,7 +31,7 @@ pub extern "C" fn fj_add(
     a: u64,
     b: u64,
 ) -> u64
-    ensures { left result (at_exit links figures marks) ≡ fj_add n (at_entry links figures marks) a b }
+    ensures { left result (state links.new figures.new marks.new) ≡ fj_add n (state links.old figures.old marks.old) a b }
 {
     on_bytes(n, links, figures, marks, Request::Add, a, b)
 }
@@ -44,7 +46,7 @@ pub extern "C" fn fj_remove(
     a: u64,
     b: u64,
 ) -> u64
-    ensures { left result (at_exit links figures marks) ≡ fj_remove n (at_entry links figures marks) a b }
+    ensures { left result (state links.new figures.new marks.new) ≡ fj_remove n (state links.old figures.old marks.old) a b }
 {
     on_bytes(n, links, figures, marks, Request::Remove, a, b)
 }

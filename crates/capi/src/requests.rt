@@ -2,10 +2,10 @@
 ghost use Rattle.std.specs.Prelude.{◌≡◌, length, replicate};
 ghost use Rattle.state.specs.Outcome.{left};
 ghost use Rattle.state.specs.Refusal.{refusal};
-ghost use Rattle.state.specs.Lent.{at_entry, at_exit};
 ghost use Rattle.edits.specs.Inside.Change.{edit_call};
 ghost use Rattle.capi.specs.Calls.{called, ended, lent_lengths};
 ghost use Rattle.capi.specs.Inside.Requests.{call_of};
+ghost use Rattle.state.specs.State.{state};
 
 use crate::figures::renew_bytes;
 use edits::edit::edit;
@@ -44,7 +44,7 @@ fn edit_bytes(
     on: bool,
 ) -> u64
     requires { refusal (lent_lengths n (length links.old) (length figures.old) (length marks.old)) ≡ 0 }
-    ensures { left result (at_exit links figures marks) ≡ ended (λ s. edit_call s a b on) n (at_entry links figures marks) }
+    ensures { left result (state links.new figures.new marks.new) ≡ ended (λ s. edit_call s a b on) n (state links.old figures.old marks.old) }
 {
     let renewal = edit(links, marks, n, a, b, on);
     renew_bytes(figures, renewal);
@@ -62,7 +62,7 @@ fn perform(
     b: usize,
 ) -> u64
     requires { refusal (lent_lengths n (length links.old) (length figures.old) (length marks.old)) ≡ 0 }
-    ensures { left result (at_exit links figures marks) ≡ ended (call_of request a b) n (at_entry links figures marks) }
+    ensures { left result (state links.new figures.new marks.new) ≡ ended (call_of request a b) n (state links.old figures.old marks.old) }
 {
     match request {
         Request::Clear => {
@@ -99,7 +99,7 @@ pub(crate) fn on_bytes(
     a: u64,
     b: u64,
 ) -> u64
-    ensures { left result (at_exit links figures marks) ≡ called (call_of request a b) n (at_entry links figures marks) }
+    ensures { left result (state links.new figures.new marks.new) ≡ called (call_of request a b) n (state links.old figures.old marks.old) }
 {
     let lengths = length_refusal(n, links.len(), figures.len(), marks.len());
     if lengths != 0 {

@@ -9,7 +9,7 @@ use Rattle.arith.specs.Sums.{count_to}
 use Rattle.cases.proofs.Reflect.{always, bits, both, everywhere, lists, numbers, orders, Reflects, said_as, same_lists, whenever}
 use Rattle.ego.specs.Graph.{Graph}
 use Rattle.ego.specs.Score.{score}
-use Rattle.history.specs.History.{edits, Effect, filled_with, firstK, first_of, links, nodes, OfEdit, OfList, others, refusal, Says, Sentence, settled, settles, stale, worked}
+use Rattle.history.specs.History.{edits, Effect, filled_with, first_k, first_of, links, nodes, OfEdit, OfList, others, refusal, Says, Sentence, settled, settles, stale, worked}
 use Rattle.history.specs.Model.{add, as_records, Call, clear, Entries, in_row, list, load, load_at, model, model_refusal, reconcile, reconcile_pinned, remove, room}
 use Rattle.state.specs.Refusal.{touched}
 use Rattle.state.specs.State.{figure, graph, is_stale, size, State}
@@ -32,9 +32,9 @@ same_entries (in_row xs) (as_records ys) = false
 same_entries (as_records xs) (in_row ys) = false
 same_entries (as_records xs) (as_records ys) = same_lists same_entry xs ys
 
-abbrev in_aRow : Entries → Bool
-in_aRow (in_row xs) = true
-in_aRow (as_records xs) = false
+abbrev in_a_row : Entries → Bool
+in_a_row (in_row xs) = true
+in_a_row (as_records xs) = false
 
 abbrev numbers_of : List ℕ → Entries → List ℕ
 numbers_of d (in_row xs) = xs
@@ -46,8 +46,8 @@ records_of d (as_records xs) = xs
 
 entries_same : (x y : Entries) → Reflects (x ≡ y) (same_entries x y)
 entries_same (in_row xs) (in_row ys) = said_as (ap in_row) (ap (numbers_of xs)) (lists eqb numbers xs ys)
-entries_same (in_row xs) (as_records ys) = record { holds = λ e. absurd (true≢false (sym e)); fails = λ e p. true≢false (ap in_aRow p) }
-entries_same (as_records xs) (in_row ys) = record { holds = λ e. absurd (true≢false (sym e)); fails = λ e p. true≢false (sym (ap in_aRow p)) }
+entries_same (in_row xs) (as_records ys) = record { holds = λ e. absurd (true≢false (sym e)); fails = λ e p. true≢false (ap in_a_row p) }
+entries_same (as_records xs) (in_row ys) = record { holds = λ e. absurd (true≢false (sym e)); fails = λ e p. true≢false (sym (ap in_a_row p)) }
 entries_same (as_records xs) (as_records ys) = said_as (ap as_records) (ap (records_of xs)) (lists same_entry entry_same xs ys)
 
 -- ---- what is said of lists and of edits alone
@@ -98,8 +98,8 @@ of_edit_lem (list entries scratch) f r = always
 
 module _ (n : ℕ) (s : State) (g : Graph) (call : Call) (e : Effect) where
   -- a list that is lent the entries works p out
-  abbrev workedOut : Entries → ℕ → Bool
-  workedOut entries = works_out s.figures s.marks (first_of n g (room entries))
+  abbrev worked_out : Entries → ℕ → Bool
+  worked_out entries = works_out s.figures s.marks (first_of n g (room entries))
 
   -- p's mark is `mark`, and its figure `value`
   abbrev became : Bool → ℕ → ℕ → Bool
@@ -113,11 +113,11 @@ module _ (n : ℕ) (s : State) (g : Graph) (call : Call) (e : Effect) where
   tested settled = each (λ p. not (beq (is_stale e.after p) false) || eqb (figure e.after p) (score (model n g call) n p)) n
   tested stale = each (λ p. not (beq (is_stale e.after p) true) || leb (score (model n g call) n p) (figure e.after p)) n
   tested refusal = eqb e.answer (model_refusal n g call)
-  tested firstK = where_listed call (λ entries. not (eqb e.answer 0) || same_entries e.entries (filled_with (first_of n g (room entries)) entries))
-  tested worked = where_listed call (λ entries. not (eqb e.answer 0) || eqb e.recomputed (count_to (workedOut entries) n))
-  tested settles = where_listed call (λ entries. not (eqb e.answer 0) || each (λ p. not (beq (workedOut entries p) true) || became false (score g n p) p) n)
+  tested first_k = where_listed call (λ entries. not (eqb e.answer 0) || same_entries e.entries (filled_with (first_of n g (room entries)) entries))
+  tested worked = where_listed call (λ entries. not (eqb e.answer 0) || eqb e.recomputed (count_to (worked_out entries) n))
+  tested settles = where_listed call (λ entries. not (eqb e.answer 0) || each (λ p. not (beq (worked_out entries p) true) || became false (score g n p) p) n)
   tested others = where_listed call (λ entries. not (eqb e.answer 0)
-      || each (λ p. not (beq (workedOut entries p) false) || became (is_stale s p) (figure s p) p) n)
+      || each (λ p. not (beq (worked_out entries p) false) || became (is_stale s p) (figure s p) p) n)
   tested edits = of_edit call (λ a b. each (λ p. not (beq (touched g a b p) false) || became (is_stale s p) (figure s p) p) n)
   tested nodes = eqb (size e.after) n
 
@@ -126,7 +126,7 @@ module _ (n : ℕ) (s : State) (g : Graph) (call : Call) (e : Effect) where
   tests settled = everywhere _ (λ p. whenever _ _ (bits _ false) (numbers _ _)) n
   tests stale = everywhere _ (λ p. whenever _ _ (bits _ true) (orders _ _)) n
   tests refusal = numbers _ _
-  tests firstK = of_list_lem call _ (λ entries. whenever _ _ (numbers _ 0) (entries_same _ _))
+  tests first_k = of_list_lem call _ (λ entries. whenever _ _ (numbers _ 0) (entries_same _ _))
   tests worked = of_list_lem call _ (λ entries. whenever _ _ (numbers _ 0) (numbers _ _))
   tests settles = of_list_lem call _ (λ entries. whenever _ _ (numbers _ 0) (everywhere _ (λ p. whenever _ _ (bits _ true) (became_is false _ p)) n))
   tests others = of_list_lem call _ (λ entries. whenever _ _ (numbers _ 0) (everywhere _ (λ p. whenever _ _ (bits _ false) (became_is _ _ p)) n))

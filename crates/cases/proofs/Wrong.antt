@@ -12,7 +12,7 @@ use Rattle.arith.proofs.Tests.{each, each_at}
 use Rattle.cases.proofs.Reflect.{any_at, any_of, bits}
 use Rattle.cases.proofs.Sentences.{tested, tests}
 use Rattle.cases.specs.Wrong.{Excluded, found, models, Wrong, wrongs}
-use Rattle.history.specs.History.{edits, effect, firstK, links, nodes, others, refusal, Sentence, settled, settles, stale, worked}
+use Rattle.history.specs.History.{edits, effect, first_k, links, nodes, others, refusal, Sentence, settled, settles, stale, worked}
 use Rattle.history.specs.Model.{no_pairs}
 use Rattle.state.specs.Marks as marks
 use Rattle.state.specs.Refusal as refusals
@@ -20,14 +20,14 @@ use Rattle.state.specs.Refusal as refusals
 -- ---- the sentences in a row
 
 unfoldable pub sentences : List Sentence
-sentences = links ∷ settled ∷ stale ∷ refusal ∷ firstK ∷ worked ∷ settles ∷ others ∷ edits ∷ nodes ∷ []
+sentences = links ∷ settled ∷ stale ∷ refusal ∷ first_k ∷ worked ∷ settles ∷ others ∷ edits ∷ nodes ∷ []
 
 abbrev number : Sentence → ℕ
 number links = 0
 number settled = 1
 number stale = 2
 number refusal = 3
-number firstK = 4
+number first_k = 4
 number worked = 5
 number settles = 6
 number others = 7
@@ -43,7 +43,7 @@ numbered links = refl
 numbered settled = refl
 numbered stale = refl
 numbered refusal = refl
-numbered firstK = refl
+numbered first_k = refl
 numbered worked = refl
 numbered settles = refl
 numbered others = refl
@@ -55,7 +55,7 @@ number_below links = omega arith
 number_below settled = omega arith
 number_below stale = omega arith
 number_below refusal = omega arith
-number_below firstK = omega arith
+number_below first_k = omega arith
 number_below worked = omega arith
 number_below settles = omega arith
 number_below others = omega arith

@@ -7,7 +7,7 @@ use Rattle.state.specs.Marks.{with_mark}
 use Rattle.state.specs.State.{State, state}
 use Rattle.topk.specs.Entries.{entry}
 use Rattle.history.specs.Model.{Call, clear, load, load_at, add, remove, reconcile_pinned, list, Entries, in_row, as_records, no_pairs, model}
-use Rattle.history.specs.History.{Effect, effect, Sentence, links, settled, stale, refusal, firstK, worked, settles, others, edits, nodes, Says}
+use Rattle.history.specs.History.{Effect, effect, Sentence, links, settled, stale, refusal, first_k, worked, settles, others, edits, nodes, Says}
 use Rattle.cases.specs.Cases.{run_calls, unclean}
 
 -- A history on some number of posts, the call after it, and what a wrong program makes of the call's effect; `breaks` is the sentence that excludes it.
@@ -97,8 +97,8 @@ wrongs =
     -- Refusal 2 for 15: theirs has removed a link that mine confirms.
     wrong refusal 3 (clear ∷ add 0 1 ∷ []) (reconcile_pinned (brought (0x80 ∷ []) (0x00 ∷ []) (0x00 ∷ []) (0x80 ∷ []))) (answering 2) ∷
     -- The first two exchanged at a tie.
-    wrong firstK 4 ring list_of_two (with_entries (in_row (1 ∷ unit ∷ 0 ∷ unit ∷ []))) ∷
-    wrong firstK 4 ring two_records (with_entries (as_records (entry 1 unit ∷ entry 0 unit ∷ []))) ∷
+    wrong first_k 4 ring list_of_two (with_entries (in_row (1 ∷ unit ∷ 0 ∷ unit ∷ []))) ∷
+    wrong first_k 4 ring two_records (with_entries (as_records (entry 1 unit ∷ entry 0 unit ∷ []))) ∷
     -- A worked count one too many.
     wrong worked 4 ring list_of_two overcounting ∷
     wrong worked 4 ring two_records overcounting ∷

@@ -2,11 +2,11 @@
 ghost use Rattle.std.specs.Prelude.{◌≡◌, cond};
 ghost use Rattle.packed.specs.Edges.{with_edge};
 ghost use Rattle.state.specs.Outcome.{left};
-ghost use Rattle.state.specs.Lent.{at_entry, at_exit, lent};
 ghost use Rattle.edits.specs.Inside.Touched.{stale_each, Markable};
 ghost use Rattle.edits.specs.Inside.Renewal.{renewal_by};
 ghost use Rattle.edits.specs.Inside.Change.{Appliable, changed, edit_call, Edits, Steppable};
 ghost use Rattle.edits.specs.Edit.{add_call, remove_call};
+ghost use Rattle.state.specs.State.{state};
 
 use crate::examined::examine;
 use crate::renewal::{Renewal, bounds_of, refused, renew};
@@ -90,7 +90,7 @@ fn edit_state(
     b: usize,
     on: bool,
 ) -> u64
-    ensures { left result (at_exit edges figures marks) ≡ edit_call (at_entry edges figures marks) a b on }
+    ensures { left result (state edges.new figures.new marks.new) ≡ edit_call (state edges.old figures.old marks.old) a b on }
 {
     let renewal = edit(edges, marks, figures.len(), a, b, on);
     renew(figures, renewal);
@@ -99,14 +99,14 @@ fn edit_state(
 
 // Adds the edge a, b. Both ends take their bounds, and each common neighbour the smaller of its figure and its bound; all become stale.
 pub fn add(edges: &mut [u8], figures: &mut [u64], marks: &mut [u8], a: usize, b: usize) -> u64
-    ensures { left result (at_exit edges figures marks) ≡ add_call (at_entry edges figures marks) a b }
+    ensures { left result (state edges.new figures.new marks.new) ≡ add_call (state edges.old figures.old marks.old) a b }
 {
     edit_state(edges, figures, marks, a, b, true)
 }
 
 // Removes the edge a, b. Both ends and their common neighbours take their bounds and become stale.
 pub fn remove(edges: &mut [u8], figures: &mut [u64], marks: &mut [u8], a: usize, b: usize) -> u64
-    ensures { left result (at_exit edges figures marks) ≡ remove_call (at_entry edges figures marks) a b }
+    ensures { left result (state edges.new figures.new marks.new) ≡ remove_call (state edges.old figures.old marks.old) a b }
 {
     edit_state(edges, figures, marks, a, b, false)
 }
@@ -120,8 +120,8 @@ pub fn edit_step(
     b: usize,
     on: bool,
 )
-    requires { Steppable (lent edges figures marks) a b on }
-    ensures { at_exit edges figures marks ≡ changed (at_entry edges figures marks) a b on }
+    requires { Steppable (state edges.old figures.old marks.old) a b on }
+    ensures { state edges.new figures.new marks.new ≡ changed (state edges.old figures.old marks.old) a b on }
 {
     let n = figures.len();
     let touching = touched_of(edges, neighbours_of(edges, n, a), a, b);

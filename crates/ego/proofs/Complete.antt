@@ -14,7 +14,7 @@ use Rattle.arith.proofs.Filter.{filter_in, mem_filter}
 use Rattle.arith.proofs.Least.{least_from_le, least_from_passes}
 use Rattle.arith.proofs.Members.{any_mem, concat_in, distinct_concat, distinct_filter, distinct_map, mem_any, mem_concat}
 use Rattle.arith.proofs.Tests.{eqb_same, test}
-use Rattle.arith.specs.Lists.{Distinct, filter, least_from, nonEmpty}
+use Rattle.arith.specs.Lists.{Distinct, filter, least_from, non_empty}
 use Rattle.ego.specs.Graph.{distance, Graph, Shortest, shortest, stay, step, Walk, walks}
 
 module _ (g : Graph) (h : List ℕ) where
@@ -78,9 +78,9 @@ module _ (g : Graph) (h : List ℕ) where
   unfolding distance
   distance_le u v {l} w = go (length l) refl
     where
-      go : (n : ℕ) → length l ≡ n → suc (least_from (λ k. nonEmpty (walks g h k u v)) 0 (length h)) ≤ length l
+      go : (n : ℕ) → length l ≡ n → suc (least_from (λ k. non_empty (walks g h k u v)) 0 (length h)) ≤ length l
       go zero e = absurd (let z : ⊥ = omega (arith, walk_some w) in z)
-      go (suc k) e = rw e (suc-le-suc (least_from_le (λ k. nonEmpty (walks g h k u v)) 0 (length h) k zero-le (any_mem (complete w k e))))
+      go (suc k) e = rw e (suc-le-suc (least_from_le (λ k. non_empty (walks g h k u v)) 0 (length h) k zero-le (any_mem (complete w k e))))
 
   pub shortest_are : (u v : ℕ) {l : List ℕ} → Memᴰ l (shortest g h u v) → Shortest g h u v l
   unfolding shortest
@@ -92,7 +92,7 @@ module _ (g : Graph) (h : List ℕ) where
   pub all_shortest : (u v : ℕ) {o l : List ℕ} → Walk g h u v o → length o ≤ length h → Shortest g h u v l → Memᴰ l (shortest g h u v)
   unfolding shortest distance
   all_shortest u v {o} {l} w short s =
-      let f : ℕ → Bool = λ k. nonEmpty (walks g h k u v) in
+      let f : ℕ → Bool = λ k. non_empty (walks g h k u v) in
       let (k, n) = pred_of (length o) (walk_some w) in
       let some = least_from_passes f 0 (length h) k zero-le (omega arith) (any_mem (complete w k n)) in
       let (l', m) = mem_any (walks g h (distance g h u v) u v) some in

@@ -10,7 +10,7 @@ use Rattle.arith.proofs.ListSums.{sum_mem}
 use Rattle.arith.proofs.Members.{concat_mem}
 use Rattle.arith.proofs.Pairs.{mem_pairs}
 use Rattle.arith.proofs.Range.{mem_range}
-use Rattle.arith.specs.Lists.{count, filter, least_from, nonEmpty, pairs, range, sum}
+use Rattle.arith.specs.Lists.{count, filter, least_from, non_empty, pairs, range, sum}
 use Rattle.ego.proofs.Shares.{neighbours_up}
 use Rattle.ego.specs.Bound.{bound, unlinked}
 use Rattle.ego.specs.Graph.{distance, ego, Graph, inner, neighbours, shortest, walks}
@@ -29,7 +29,7 @@ module _ (g g' : Graph) (h : List ℕ) (same : (a b : ℕ) → Memᴰ a h → Me
   unfolding shortest distance
   shortest_same u v m =
       rw (walks_same _ u v m)
-      (ap (λ f. walks g' h (least_from f 0 (length h)) u v) (fun_ext (λ k. ap nonEmpty (walks_same k u v m))))
+      (ap (λ f. walks g' h (least_from f 0 (length h)) u v) (fun_ext (λ k. ap non_empty (walks_same k u v m))))
 
 module _ (g g' : Graph) (n p : ℕ) (near : (q : ℕ) → q < n → g p q ≡ g' p q)
     (among : (a b : ℕ) → Memᴰ a (ego g n p) → Memᴰ b (ego g n p) → g a b ≡ g' a b) where

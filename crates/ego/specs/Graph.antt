@@ -1,7 +1,7 @@
 -- Graphs, ego networks, walks and shortest paths. Assumes nothing.
 use Rattle.std.specs.Prelude.{◌≡◌, Bool, true, false, ℕ, zero, suc, ◌≤◌, eqb, length}
 use mathlib.Core.List.{List, [], ◌∷◌, map, tail, drop_last, Memᴰ}
-use Rattle.arith.specs.Lists.{consIf, filter, concatMap, range, elem, least_from, nonEmpty}
+use Rattle.arith.specs.Lists.{cons_if, filter, concat_map, range, elem, least_from, non_empty}
 
 -- Whether two nodes (01's posts) are linked.
 abbrev pub Graph : Type 0
@@ -26,12 +26,12 @@ ego g n p = p ∷ neighbours g n p
 
 -- The walks of k edges from u to v inside a network: lists of k + 1 nodes, each linked to the next.
 unfoldable pub walks : Graph → List ℕ → ℕ → ℕ → ℕ → List (List ℕ)
-walks g inside zero u v = consIf (eqb u v) (u ∷ []) []
-walks g inside (suc k) u v = concatMap (λ w. map (λ l. u ∷ l) (walks g inside k w v)) (filter (g u) inside)
+walks g inside zero u v = cons_if (eqb u v) (u ∷ []) []
+walks g inside (suc k) u v = concat_map (λ w. map (λ l. u ∷ l) (walks g inside k w v)) (filter (g u) inside)
 
 -- The distance: the least number of edges of a walk. (A shortest walk meets no node twice, so it has fewer edges than there are nodes.)
 unfoldable pub distance : Graph → List ℕ → ℕ → ℕ → ℕ
-distance g inside u v = least_from (λ k. nonEmpty (walks g inside k u v)) 0 (length inside)
+distance g inside u v = least_from (λ k. non_empty (walks g inside k u v)) 0 (length inside)
 
 -- The shortest paths from u to v: the walks of that many edges.
 unfoldable pub shortest : Graph → List ℕ → ℕ → ℕ → List (List ℕ)

@@ -24,7 +24,7 @@ use Rattle.state.specs.Refusal.{everyone, refusal}
 use Rattle.state.specs.Sizes.{scratch_bytes}
 use Rattle.state.specs.State.{figure, graph, is_stale, size, State}
 use Rattle.listing.proofs.RecordLaws.{entries_refused, entries_taken}
-use Rattle.topk.proofs.ListLaws.{call_taken, conditions_pass, list_call_refused, ran_of, refusalOf}
+use Rattle.topk.proofs.ListLaws.{call_taken, conditions_pass, list_call_refused, ran_of, refusal_of}
 use Rattle.topk.proofs.Theorem.{all_steps_right}
 use Rattle.topk.proofs.TurnLaws.{all_steps_figures, all_steps_marks}
 use Rattle.topk.specs.List.{list_conditions, list_of, wanted}
@@ -39,14 +39,14 @@ ranking_ext truth truth' zero h = refl
 ranking_ext truth truth' (suc n) h = rw (h n (omega arith), ranking_ext truth truth' n (λ p l. h p (omega arith)))
 
 -- what a list does: it turns back and leaves all as it was, or runs
-list_refused : (s : State) (entries : Entries) (scratch : List ℕ) → (refusalOf s scratch (room entries) ≡ 0 → ⊥)
+list_refused : (s : State) (entries : Entries) (scratch : List ℕ) → (refusal_of s scratch (room entries) ≡ 0 → ⊥)
     → effect s (list entries scratch)
-    ≡ record { answer = refusalOf s scratch (room entries); after = s; recomputed = 0; entries = entries; scratch = scratch }
+    ≡ record { answer = refusal_of s scratch (room entries); after = s; recomputed = 0; entries = entries; scratch = scratch }
 unfolding effect
 list_refused s (in_row numbers) scratch d = ap (of_list in_row) (list_call_refused s scratch numbers (wanted numbers) refl d)
 list_refused s (as_records records) scratch d = ap (of_list as_records) (entries_refused s scratch records d)
 
-list_runs : (s : State) (entries : Entries) (scratch : List ℕ) → refusalOf s scratch (room entries) ≡ 0 → let run = list_of s (room entries) in
+list_runs : (s : State) (entries : Entries) (scratch : List ℕ) → refusal_of s scratch (room entries) ≡ 0 → let run = list_of s (room entries) in
     effect s (list entries scratch) ≡ record {
       answer = 0;
       after = ran_of s (room entries);
@@ -69,7 +69,7 @@ module _ (s : State) (g : Graph) (h : Sound (size s) g s) (entries : Entries) (s
   abbrev asked : ℕ
   asked = refusal (list_conditions (size s) g k (length scratch))
 
-  same : refusalOf s scratch k ≡ asked
+  same : refusal_of s scratch k ≡ asked
   same =
       lengths_pass s (list_conditions (size s) (graph s) k (length scratch)) h.shows.fits
       ∙ rw (before_agree (size s) (graph s) g everyone everyone h.shows.links (λ p l. refl))
@@ -83,13 +83,13 @@ module _ (s : State) (g : Graph) (h : Sound (size s) g s) (entries : Entries) (s
     kept_first : run.kept ≡ first_of (size s) g k
     kept_first = right.kept ∙ ap (take k) (ranking_ext (score (graph s) (size s)) (score g (size s)) (size s) (λ p l. sound_score h p l))
 
-    abbrev workedOut : ℕ → Bool
-    workedOut = works_out s.figures s.marks (first_of (size s) g k)
+    abbrev worked_out : ℕ → Bool
+    worked_out = works_out s.figures s.marks (first_of (size s) g k)
 
-    figure_is_lem : (p : ℕ) → p < size s → get_or run.figures p 0 ≡ cond (workedOut p) (score g (size s) p) (figure s p)
+    figure_is_lem : (p : ℕ) → p < size s → get_or run.figures p 0 ≡ cond (worked_out p) (score g (size s) p) (figure s p)
     figure_is_lem p l = rw (kept_first, sound_score h p l) at (right.figures_are p l)
 
-    mark_is_lem : (p : ℕ) → p < size s → stale run.marks p ≡ (is_stale s p && not (workedOut p))
+    mark_is_lem : (p : ℕ) → p < size s → stale run.marks p ≡ (is_stale s p && not (worked_out p))
     mark_is_lem p l = rw kept_first at (right.marks_are p l)
 
     list_sound : Sound (size s) g (ran_of s k)
@@ -109,13 +109,13 @@ module _ (s : State) (g : Graph) (h : Sound (size s) g s) (entries : Entries) (s
         below p l = omega (arith, all_steps_figures (score (graph s) (size s)) k s.figures s.marks)
 
         settled : (p : ℕ) → p < size s → stale run.marks p ≡ false → get_or run.figures p 0 ≡ score (graph s) (size s) p
-        settled p l e = elim (test (workedOut p)) [
+        settled p l e = elim (test (worked_out p)) [
           | inl w ↦ figure_is_lem p l ∙ rw w (sym (sound_score h p l))
           | inr w ↦ figure_is_lem p l ∙ rw w (h.honest.settled p l (sym (mark_is_lem p l ∙ rw w (and_comm (is_stale s p) true)) ∙ e))
         ]
 
         above : (p : ℕ) → p < size s → score (graph s) (size s) p ≤ get_or run.figures p 0
-        above p l = elim (test (workedOut p)) [
+        above p l = elim (test (worked_out p)) [
           | inl w ↦ rw (figure_is_lem p l, w, sound_score h p l) (le_refl _)
           | inr w ↦ rw (figure_is_lem p l, w) (h.honest.above p l)
         ]
@@ -140,7 +140,7 @@ module _ (s : State) (g : Graph) (h : Sound (size s) g s) (entries : Entries) (s
     abbrev done : State
     done = state_after s (list entries scratch)
 
-    taken : refusalOf s scratch k ≡ 0
+    taken : refusal_of s scratch k ≡ 0
     taken = same ∙ zero_asked
 
     ran : done ≡ ran_of s k

@@ -157,15 +157,15 @@ module _ (s : State) (g : Graph) (fits : StateFits s) where
 
   -- 9 of a schedule comes before the lengths
   module _ (schedule : List ℕ) (t : ℕ) where
-    abbrev atTests : List Condition
-    atTests = bad_schedule schedule ∷ (lengths s ++ load_at_conditions n schedule t)
+    abbrev at_tests : List Condition
+    at_tests = bad_schedule schedule ∷ (lengths s ++ load_at_conditions n schedule t)
 
-    at_same : refusal atTests ≡ refusal (rest n g (load_at schedule t))
+    at_same : refusal at_tests ≡ refusal (rest n g (load_at schedule t))
     unfolding own_conditions
     at_same = append_same (bad_schedule schedule ∷ []) _ (load_at_conditions n schedule t) (lengths_pass s (load_at_conditions n schedule t) fits)
 
     pub load_at_answer : answer s (load_at schedule t) ≡ model_refusal n g (load_at schedule t)
-    load_at_answer = call_answer s fits g (load_at schedule t) atTests _ (load_at_is s schedule t) at_same
+    load_at_answer = call_answer s fits g (load_at schedule t) at_tests _ (load_at_is s schedule t) at_same
 
     at_took : refusal (rest n g (load_at schedule t)) ≡ 0 → Sound n (would_hold g (load_at schedule t)) (loaded n (edges_at schedule t))
     unfolding would_hold own_conditions
@@ -174,7 +174,7 @@ module _ (s : State) (g : Graph) (fits : StateFits s) where
         (loaded_sound n fits.sizes.some fits.sizes.few (edges_at schedule t) (edges_long schedule t ∙ ap edge_bytes (loaded_nodes n schedule t z)))
 
     pub load_at_sound : ((model_refusal n g (load_at schedule t) ≡ 0 → ⊥) → Sound n g s) → Sound n (model n g (load_at schedule t)) (state_after s (load_at schedule t))
-    load_at_sound = call_sound s fits g (load_at schedule t) atTests _ (load_at_is s schedule t) at_same at_took
+    load_at_sound = call_sound s fits g (load_at schedule t) at_tests _ (load_at_is s schedule t) at_same at_took
 
 -- ---- the calls on a sound state
 
@@ -186,17 +186,17 @@ module _ (s : State) (g : Graph) (h : Sound (size s) g s) where
   links = h.shows.links
 
   module _ (a b : ℕ) where
-    abbrev addTests : List Condition
-    addTests = add_conditions (size s) (graph s) (edge (with_edge s.edges a b true)) a b
+    abbrev add_tests : List Condition
+    add_tests = add_conditions (size s) (graph s) (edge (with_edge s.edges a b true)) a b
 
-    abbrev removeTests : List Condition
-    removeTests = remove_conditions (size s) (graph s) a b
+    abbrev remove_tests : List Condition
+    remove_tests = remove_conditions (size s) (graph s) a b
 
-    add_is : effect s (add a b) ≡ of_state (outcome (lengths s ++ addTests) s (added s a b))
+    add_is : effect s (add a b) ≡ of_state (outcome (lengths s ++ add_tests) s (added s a b))
     unfolding effect add_call
     add_is = refl
 
-    remove_is : effect s (remove a b) ≡ of_state (outcome (lengths s ++ removeTests) s (removed s a b))
+    remove_is : effect s (remove a b) ≡ of_state (outcome (lengths s ++ remove_tests) s (removed s a b))
     unfolding effect remove_call
     remove_is = refl
 
@@ -204,19 +204,19 @@ module _ (s : State) (g : Graph) (h : Sound (size s) g s) where
     pair_links ha hb two = agree_trans {g = with_pair (graph s) a b true}
         (λ x y hx hy. edit_pair s.edges (size s) a b (sized_room fits.sizes) ha hb two true x y) (pair_agree a b true links)
 
-    add_same : refusal (lengths s ++ addTests) ≡ refusal (own_conditions (size s) g (add a b))
+    add_same : refusal (lengths s ++ add_tests) ≡ refusal (own_conditions (size s) g (add a b))
     unfolding own_conditions would_hold
-    add_same = lengths_pass s addTests fits ∙ add_agree (size s) (graph s) g a b links _ _ pair_links
+    add_same = lengths_pass s add_tests fits ∙ add_agree (size s) (graph s) g a b links _ _ pair_links
 
-    remove_same : refusal (lengths s ++ removeTests) ≡ refusal (own_conditions (size s) g (remove a b))
+    remove_same : refusal (lengths s ++ remove_tests) ≡ refusal (own_conditions (size s) g (remove a b))
     unfolding own_conditions
-    remove_same = lengths_pass s removeTests fits ∙ remove_agree (size s) (graph s) g a b links
+    remove_same = lengths_pass s remove_tests fits ∙ remove_agree (size s) (graph s) g a b links
 
     pub add_answer : answer s (add a b) ≡ model_refusal (size s) g (add a b)
-    add_answer = call_answer s fits g (add a b) (lengths s ++ addTests) (added s a b) add_is add_same
+    add_answer = call_answer s fits g (add a b) (lengths s ++ add_tests) (added s a b) add_is add_same
 
     pub remove_answer : answer s (remove a b) ≡ model_refusal (size s) g (remove a b)
-    remove_answer = call_answer s fits g (remove a b) (lengths s ++ removeTests) (removed s a b) remove_is remove_same
+    remove_answer = call_answer s fits g (remove a b) (lengths s ++ remove_tests) (removed s a b) remove_is remove_same
 
     add_named : refusal (own_conditions (size s) g (add a b)) ≡ 0 → Named (size s) g a b false
     unfolding own_conditions
@@ -235,10 +235,10 @@ module _ (s : State) (g : Graph) (h : Sound (size s) g s) where
     remove_took z = removed_sound a b (remove_named z) h
 
     pub add_sound : Sound (size s) (model (size s) g (add a b)) (state_after s (add a b))
-    add_sound = call_sound s fits g (add a b) (lengths s ++ addTests) (added s a b) add_is add_same add_took (λ d. h)
+    add_sound = call_sound s fits g (add a b) (lengths s ++ add_tests) (added s a b) add_is add_same add_took (λ d. h)
 
     pub remove_sound : Sound (size s) (model (size s) g (remove a b)) (state_after s (remove a b))
-    remove_sound = call_sound s fits g (remove a b) (lengths s ++ removeTests) (removed s a b) remove_is remove_same remove_took (λ d. h)
+    remove_sound = call_sound s fits g (remove a b) (lengths s ++ remove_tests) (removed s a b) remove_is remove_same remove_took (λ d. h)
 
     -- a node that is neither an end nor a common neighbour is as it was
     module _ (p : ℕ) (l : p < size s) (u : touched g a b p ≡ false) where
@@ -247,19 +247,19 @@ module _ (s : State) (g : Graph) (h : Sound (size s) g s) where
 
       pub add_untouched : Unaltered s (state_after s (add a b)) p
       unfolding added
-      add_untouched = call_leaves s fits g (add a b) (lengths s ++ addTests) (added s a b) add_is add_same (λ t. Unaltered s t p)
+      add_untouched = call_leaves s fits g (add a b) (lengths s ++ add_tests) (added s a b) add_is add_same (λ t. Unaltered s t p)
           (λ z. let e = apart (add_named z) in edited_kept s a b true (ends a b) (marks_room fits) p l (untouched_end (graph s) a b p e) e) (λ d. (refl, refl))
 
       pub remove_untouched : Unaltered s (state_after s (remove a b)) p
       unfolding removed
-      remove_untouched = call_leaves s fits g (remove a b) (lengths s ++ removeTests) (removed s a b) remove_is remove_same (λ t. Unaltered s t p)
+      remove_untouched = call_leaves s fits g (remove a b) (lengths s ++ remove_tests) (removed s a b) remove_is remove_same (λ t. Unaltered s t p)
           (λ z. let e = apart (remove_named z) in edited_kept s a b false (touched (graph s) a b) (marks_room fits) p l e e) (λ d. (refl, refl))
 
   module _ (theirs base : List ℕ) where
-    abbrev reconcileTests : List Condition
-    reconcileTests = reconcile_conditions (size s) (graph s) (merged (graph s) (edge theirs) (edge base)) theirs base
+    abbrev reconcile_tests : List Condition
+    reconcile_tests = reconcile_conditions (size s) (graph s) (merged (graph s) (edge theirs) (edge base)) theirs base
 
-    reconcile_is : effect s (reconcile theirs base) ≡ of_state (outcome (lengths s ++ reconcileTests) s (reconciled s theirs base))
+    reconcile_is : effect s (reconcile theirs base) ≡ of_state (outcome (lengths s ++ reconcile_tests) s (reconciled s theirs base))
     unfolding effect reconcile_call
     reconcile_is = refl
 
@@ -267,37 +267,37 @@ module _ (s : State) (g : Graph) (h : Sound (size s) g s) where
     unfolding would_hold
     merged_links a b ha hb = merged_is (graph s) (edge theirs) (edge base) a b ∙ rw (links a b ha hb)
 
-    reconcile_same : refusal (lengths s ++ reconcileTests) ≡ refusal (own_conditions (size s) g (reconcile theirs base))
+    reconcile_same : refusal (lengths s ++ reconcile_tests) ≡ refusal (own_conditions (size s) g (reconcile theirs base))
     unfolding own_conditions
-    reconcile_same = lengths_pass s reconcileTests fits ∙ reconcile_agree (size s) (graph s) g _ _ theirs base links merged_links
+    reconcile_same = lengths_pass s reconcile_tests fits ∙ reconcile_agree (size s) (graph s) g _ _ theirs base links merged_links
 
     pub reconcile_answer : answer s (reconcile theirs base) ≡ model_refusal (size s) g (reconcile theirs base)
-    reconcile_answer = call_answer s fits g (reconcile theirs base) (lengths s ++ reconcileTests) (reconciled s theirs base) reconcile_is reconcile_same
+    reconcile_answer = call_answer s fits g (reconcile theirs base) (lengths s ++ reconcile_tests) (reconciled s theirs base) reconcile_is reconcile_same
 
     pub reconcile_sound : Sound (size s) (model (size s) g (reconcile theirs base)) (state_after s (reconcile theirs base))
-    reconcile_sound = call_sound s fits g (reconcile theirs base) (lengths s ++ reconcileTests) (reconciled s theirs base) reconcile_is reconcile_same
+    reconcile_sound = call_sound s fits g (reconcile theirs base) (lengths s ++ reconcile_tests) (reconciled s theirs base) reconcile_is reconcile_same
         (λ z. sound_agree merged_links (reconciled_sound s theirs base (sound_agree (agree_sym links) h))) (λ d. h)
 
   module _ (brought : Brought) where
-    abbrev pinnedTests : List Condition
-    pinnedTests = pinned_conditions (size s) (graph s) brought
+    abbrev pinned_tests : List Condition
+    pinned_tests = pinned_conditions (size s) (graph s) brought
 
-    pinned_is : effect s (reconcile_pinned brought) ≡ of_state (outcome (lengths s ++ pinnedTests) s (reconciled_pinned s brought))
+    pinned_is : effect s (reconcile_pinned brought) ≡ of_state (outcome (lengths s ++ pinned_tests) s (reconciled_pinned s brought))
     unfolding effect pinned_call
     pinned_is = refl
 
     alike : AlikeBrought (size s) brought brought
     alike = brought_refl (size s) brought
 
-    asks_alike : refusal pinnedTests ≡ refusal (own_conditions (size s) g (reconcile_pinned brought))
+    asks_alike : refusal pinned_tests ≡ refusal (own_conditions (size s) g (reconcile_pinned brought))
     unfolding own_conditions
     asks_alike = pinned_agree (size s) (graph s) g brought brought links alike
 
-    pinned_same : refusal (lengths s ++ pinnedTests) ≡ refusal (own_conditions (size s) g (reconcile_pinned brought))
-    pinned_same = lengths_pass s pinnedTests fits ∙ asks_alike
+    pinned_same : refusal (lengths s ++ pinned_tests) ≡ refusal (own_conditions (size s) g (reconcile_pinned brought))
+    pinned_same = lengths_pass s pinned_tests fits ∙ asks_alike
 
     pub pinned_answer : answer s (reconcile_pinned brought) ≡ model_refusal (size s) g (reconcile_pinned brought)
-    pinned_answer = call_answer s fits g (reconcile_pinned brought) (lengths s ++ pinnedTests) (reconciled_pinned s brought) pinned_is pinned_same
+    pinned_answer = call_answer s fits g (reconcile_pinned brought) (lengths s ++ pinned_tests) (reconciled_pinned s brought) pinned_is pinned_same
 
     pinned_took : refusal (own_conditions (size s) g (reconcile_pinned brought)) ≡ 0
         → Sound (size s) (would_hold g (reconcile_pinned brought)) (reconciled_pinned s brought)
@@ -307,7 +307,7 @@ module _ (s : State) (g : Graph) (h : Sound (size s) g s) where
         (pinned_sound s brought (asks_alike ∙ z) (sound_agree (agree_sym links) h))
 
     pub pinned_stays : Sound (size s) (model (size s) g (reconcile_pinned brought)) (state_after s (reconcile_pinned brought))
-    pinned_stays = call_sound s fits g (reconcile_pinned brought) (lengths s ++ pinnedTests) (reconciled_pinned s brought) pinned_is pinned_same pinned_took (λ d. h)
+    pinned_stays = call_sound s fits g (reconcile_pinned brought) (lengths s ++ pinned_tests) (reconciled_pinned s brought) pinned_is pinned_same pinned_took (λ d. h)
 
   module _ (entries : Entries) (scratch : List ℕ) where
     pub list_answer : answer s (list entries scratch) ≡ model_refusal (size s) g (list entries scratch)

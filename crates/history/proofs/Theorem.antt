@@ -6,7 +6,7 @@ use Prim.Native.Nat.{ℕ}
 use Rattle.ego.specs.Graph.{Graph}
 use Rattle.history.proofs.ListStep.{list_first, list_others, list_settles, list_worked}
 use Rattle.history.proofs.Steps.{add_answer, add_sound, add_untouched, clear_answer, clear_fits, clear_sound, list_answer, list_sound, load_answer, load_at_answer, load_at_fits, load_at_sound, load_fits, load_sound, pinned_answer, pinned_stays, reconcile_answer, reconcile_sound, remove_answer, remove_sound, remove_untouched}
-use Rattle.history.specs.History.{state_after, answer, Demand3, edits, effect, firstK, links, nodes, others, Promise, Promises, refusal, Says, Sentence, settled, settles, stale, starts, worked}
+use Rattle.history.specs.History.{state_after, answer, Demand3, edits, effect, first_k, links, nodes, others, Promise, Promises, refusal, Says, Sentence, settled, settles, stale, starts, worked}
 use Rattle.history.specs.Model.{add, Call, clear, list, load, load_at, model, model_refusal, no_pairs, reconcile, reconcile_pinned, remove}
 use Rattle.edits.proofs.Sound.{Sound, sound_above, sound_settled}
 use Rattle.state.specs.State.{size, State}
@@ -21,12 +21,12 @@ module _ (s : State) (g : Graph) (call : Call) (h : Sound (size s) (model (size 
   Said x = Says (size s) s g call (effect s call) x
 
   -- what is said of a list and of an edit is left to them
-  promise : Said firstK → Said worked → Said settles → Said others → Said edits → (x : Sentence) → Said x
+  promise : Said first_k → Said worked → Said settles → Said others → Said edits → (x : Sentence) → Said x
   promise f w t o e links = h.shows.links
   promise f w t o e settled = λ p l m. sound_settled h p l m
   promise f w t o e stale = λ p l m. sound_above h p l
   promise f w t o e refusal = r
-  promise f w t o e firstK = f
+  promise f w t o e first_k = f
   promise f w t o e worked = w
   promise f w t o e settles = t
   promise f w t o e others = o

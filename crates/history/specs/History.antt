@@ -91,7 +91,7 @@ Unaltered s t p = (is_stale t p ≡ is_stale s p) × (figure t p ≡ figure s p)
 -- ---- demand 3, sentence by sentence
 
 pub data Sentence : Type 0 where
-  links settled stale refusal firstK worked settles others edits nodes : Sentence
+  links settled stale refusal first_k worked settles others edits nodes : Sentence
 
 -- What each says of one call of a history: s is the state before it, g has the model's pairs before it, and e is what it leaves.
 -- Stored figures, and which nodes are stale, are read from s, as a list finds it.
@@ -105,7 +105,7 @@ Says n s g call e stale = (p : ℕ) → p < n → is_stale e.after p ≡ true �
 -- Its refusal number is the model's.
 Says n s g call e refusal = e.answer ≡ model_refusal n g call
 -- The entries of an accepted list are the first k of all nodes by those scores, lower number first at a tie, each with its score in grains;
-Says n s g call e firstK = OfList call (λ entries. e.answer ≡ 0 → e.entries ≡ filled_with (first_of n g (room entries)) entries)
+Says n s g call e first_k = OfList call (λ entries. e.answer ≡ 0 → e.entries ≡ filled_with (first_of n g (room entries)) entries)
 -- its worked count is the number of nodes stale beforehand whose stored figure, then number, ranks at or before the last listed score and its number;
 Says n s g call e worked = OfList call (λ entries. e.answer ≡ 0 → e.recomputed ≡ count_to (works_out s.figures s.marks (first_of n g (room entries))) n)
 -- it settles those,

@@ -1,1 +1,2 @@
 // The plain model of a history, and demand 3.
+#![tactic(auto)]

@@ -20,7 +20,7 @@ use Rattle.topk.proofs.Full.{all_steps-length}
 use Rattle.topk.proofs.LayoutLaws.{entries_of_flat, length_flat}
 use Rattle.topk.specs.Entries.{entry, flat, entries_of}
 use Rattle.topk.specs.declared.entries.Entry.{Entry}
-use Rattle.topk.proofs.ListLaws.{acceptedOf, call_passed, call_refusal, call_taken, list_call_refused, refusalOf}
+use Rattle.topk.proofs.ListLaws.{accepted_of, call_passed, call_refusal, call_taken, list_call_refused, refusal_of}
 use Rattle.topk.specs.List.{list_call, list_conditions, listing, Listed, list_of, wanted}
 use Rattle.listing.specs.Records.{entries_call}
 use Rattle.topk.specs.Inside.Layout.{entry_in}
@@ -76,7 +76,7 @@ module _ (s : State) (C : List ℕ) where
   fit : refusal (lengths s) ≡ 0 → Fitted n (length s.edges) (length s.marks)
   fit z = lengths_fit s [] (ap refusal (append-nil (lengths s)) ∙ z)
 
-  same_refusal : (k : ℕ) → refusalOf s C (min k rows) ≡ refusalOf s C k
+  same_refusal : (k : ℕ) → refusal_of s C (min k rows) ≡ refusal_of s C k
   same_refusal k = elim (ℕ_discrete (refusal (lengths s)) 0) [
     | yes z ↦
         let f = fit z in
@@ -87,7 +87,7 @@ module _ (s : State) (C : List ℕ) where
   ]
 
   -- an accepted list has as many nodes, and not more than the numbers have rows
-  most : (k : ℕ) → refusalOf s C k ≡ 0 → (k ≤ n) × (n < rows)
+  most : (k : ℕ) → refusal_of s C k ≡ 0 → (k ≤ n) × (n < rows)
   most k z = ((call_passed s C k z).within, omega (arith, (lengths_fit s (conditions k) z).sizes.few))
 
   abbrev run : ℕ → Progress
@@ -113,18 +113,18 @@ module _ (s : State) (C : List ℕ) where
 
   module _ (xs : List Entry) where
     -- a refused call alters no entry
-    pub entries_refused : (refusalOf s C (length xs) ≡ 0 → ⊥) → entries_call s xs C ≡ listing (refusalOf s C (length xs)) 0 s xs C
+    pub entries_refused : (refusal_of s C (length xs) ≡ 0 → ⊥) → entries_call s xs C ≡ listing (refusal_of s C (length xs)) 0 s xs C
     unfolding entries_call
     entries_refused d =
         ap (λ (l : Listed ℕ). over-records (entries_of (length xs) l.entries) l) (list_call_refused s C (flat xs) (length xs) (wanted_flat xs) d)
-        ∙ ap (λ (ys : List Entry). listing (refusalOf s C (length xs)) 0 s ys C) (flat_back xs)
+        ∙ ap (λ (ys : List Entry). listing (refusal_of s C (length xs)) 0 s ys C) (flat_back xs)
 
     -- an accepted one leaves the kept entries
-    pub entries_taken : refusalOf s C (length xs) ≡ 0 → entries_call s xs C ≡ over-records (run (length xs)).kept (acceptedOf s C (length xs) (flat xs))
+    pub entries_taken : refusal_of s C (length xs) ≡ 0 → entries_call s xs C ≡ over-records (run (length xs)).kept (accepted_of s C (length xs) (flat xs))
     unfolding entries_call
     entries_taken z =
         ap (λ (l : Listed ℕ). over-records (entries_of (length xs) l.entries) l) (call_taken s C (flat xs) (length xs) (wanted_flat xs) z)
-        ∙ ap (λ (ys : List Entry). over-records ys (acceptedOf s C (length xs) (flat xs))) (kept_back (length xs) _ (most (length xs) z).0)
+        ∙ ap (λ (ys : List Entry). over-records ys (accepted_of s C (length xs) (flat xs))) (kept_back (length xs) _ (most (length xs) z).0)
 
   -- ---- the numbers of a list of k entries
 
@@ -143,8 +143,8 @@ module _ (s : State) (C : List ℕ) where
     wants : wanted E ≡ min k rows
     wants = half (length E) (min k rows) (length-take-le (2 * m) N (omega arith) ∙ ap (λ (i : ℕ). 2 * i) e)
 
-    answers : a.refusal ≡ refusalOf s C k
-    answers = ap (λ (l : Listed ℕ). l.refusal) h ∙ call_refusal s C E ∙ ap (refusalOf s C) wants ∙ same_refusal k
+    answers : a.refusal ≡ refusal_of s C k
+    answers = ap (λ (l : Listed ℕ). l.refusal) h ∙ call_refusal s C E ∙ ap (refusal_of s C) wants ∙ same_refusal k
 
     gather_refused : (a.refusal ≡ 0 → ⊥) → Gathered s C k (filled 0) left s' C'
     unfolding entries_of
@@ -152,15 +152,15 @@ module _ (s : State) (C : List ℕ) where
       fits = zero-le;
       small = zero-le;
       lists = λ xs l.
-          let f : refusalOf s C k ≡ 0 → ⊥ = λ z. d (answers ∙ z) in
+          let f : refusal_of s C k ≡ 0 → ⊥ = λ z. d (answers ∙ z) in
           ap (over-records xs) (h ∙ list_call_refused s C E (min k rows) wants (λ z. f (sym (same_refusal k) ∙ z)))
-          ∙ ap (λ (r : ℕ). listing r 0 s xs C) (same_refusal k ∙ ap (refusalOf s C) (sym l))
-          ∙ sym (entries_refused xs (λ z. f (ap (refusalOf s C) (sym l) ∙ z)));
+          ∙ ap (λ (r : ℕ). listing r 0 s xs C) (same_refusal k ∙ ap (refusal_of s C) (sym l))
+          ∙ sym (entries_refused xs (λ z. f (ap (refusal_of s C) (sym l) ∙ z)));
     }
 
     gather_taken : a.refusal ≡ 0 → Gathered s C k (filled k) left s' C'
     gather_taken z =
-        let f : refusalOf s C k ≡ 0 = sym answers ∙ z in
+        let f : refusal_of s C k ≡ 0 = sym answers ∙ z in
         let t = most k f in
         let w : wanted E ≡ k = omega (arith, wants) in
         record {
@@ -168,9 +168,9 @@ module _ (s : State) (C : List ℕ) where
           small = omega arith;
           lists = λ xs l.
               ap (λ (p : Listed ℕ). over-records (laid k (p.entries ++ drop (2 * m) N) xs) p) (h ∙ call_taken s C E k w f)
-              ∙ ap (λ (ys : List Entry). over-records ys (acceptedOf s C k E)) (laid_kept k xs l t.0 _ (drop (2 * m) N))
-              ∙ ap (λ (j : ℕ). over-records (run j).kept (acceptedOf s C j [])) (sym l)
-              ∙ sym (entries_taken xs (ap (refusalOf s C) l ∙ f));
+              ∙ ap (λ (ys : List Entry). over-records ys (accepted_of s C k E)) (laid_kept k xs l t.0 _ (drop (2 * m) N))
+              ∙ ap (λ (j : ℕ). over-records (run j).kept (accepted_of s C j [])) (sym l)
+              ∙ sym (entries_taken xs (ap (refusal_of s C) l ∙ f));
         }
 
     pub gathers : {used : ℕ} → used ≡ cond (eqb a.refusal 0) k 0 → Gathered s C k (filled used) left s' C'

@@ -1,2 +1,4 @@
 // The list over entries that are lent as records.
+#![tactic(auto)]
+
 pub mod records;

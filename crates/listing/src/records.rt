@@ -2,8 +2,8 @@
 ghost use Rattle.std.specs.Prelude.{cond, ◌≡◌, ◌*◌, ◌≤◌, min, eqb, length};
 ghost use Rattle.listing.specs.Records.{entries_call};
 ghost use Rattle.listing.specs.Inside.Table.{rows, Gathered};
-ghost use Rattle.state.specs.Lent.{at_entry, at_exit};
-ghost use Rattle.topk.specs.ListLent.{at_list_entry, at_list_exit};
+ghost use Rattle.state.specs.State.{state};
+ghost use Rattle.topk.specs.List.{listing};
 
 use packed::edges::MAX_NODES;
 use topk::entries::{Entry, entry_at};
@@ -43,7 +43,7 @@ fn gather(
     k: usize,
 ) -> Filled
     requires { 2 * rows ≤ length numbers.old }
-    ensures { Gathered (at_entry edges figures marks) scratch.old k result numbers.new (at_exit edges figures marks) scratch.new }
+    ensures { Gathered (state edges.now figures.old marks.old) scratch.old k result numbers.new (state edges.now figures.new marks.new) scratch.new }
 {
     let end = 2 * rows_of(k);
     let answer = list(edges, figures, marks, &mut numbers[..end], scratch);
@@ -59,7 +59,7 @@ pub fn list_entries(
     entries: &mut [Entry],
     scratch: &mut [u8],
 ) -> Answer
-    ensures { at_list_exit result edges figures marks entries scratch ≡ at_list_entry entries_call edges figures marks entries scratch }
+    ensures { listing result.refusal result.recomputed (state edges.now figures.new marks.new) entries.new scratch.new ≡ entries_call (state edges.now figures.old marks.old) entries.old scratch.old }
 {
     let mut numbers = [0; 2 * ROWS];
     let t = gather(edges, figures, marks, scratch, &mut numbers, entries.len());

@@ -88,14 +88,14 @@ module _ (mine theirs base : List ℕ) (n : ℕ) (room : Room n mine) where
 
   -- ---- the degrees on the way, before the place a, b, and the next pair that theirs has changed
 
-  abbrev pub degreesOnWay : ℕ → ℕ → List ℕ
-  degreesOnWay a b = degrees_of (over_to settles a b mine) n
+  abbrev pub degrees_on_way : ℕ → ℕ → List ℕ
+  degrees_on_way a b = degrees_of (over_to settles a b mine) n
 
-  pub corrected_first : {degrees : List ℕ} → degrees ≡ degrees_of mine n → degrees ≡ degreesOnWay 0 0
+  pub corrected_first : {degrees : List ℕ} → degrees ≡ degrees_of mine n → degrees ≡ degrees_on_way 0 0
   corrected_first e = e ∙ ap (λ es. degrees_of es n) (walk_start settles theirs base idle mine)
 
-  module _ {a b : ℕ} {r : Pair} {degrees : List ℕ} (p : Place n a b) (f : NextPair theirs base n a b r) (e : degrees ≡ degreesOnWay a b) where
-    at_next : degrees ≡ degreesOnWay r.a r.b
+  module _ {a b : ℕ} {r : Pair} {degrees : List ℕ} (p : Place n a b) (f : NextPair theirs base n a b r) (e : degrees ≡ degrees_on_way a b) where
+    at_next : degrees ≡ degrees_on_way r.a r.b
     at_next = e ∙ ap (λ es. degrees_of es n) (walk_next settles theirs base idle mine p f refl)
 
     pub corrected_all : r.b ≡ n → degrees ≡ degrees_of (merged_edges mine theirs base n) n
@@ -127,7 +127,7 @@ module _ (mine theirs base : List ℕ) (n : ℕ) (room : Room n mine) where
         | inr t ↦ (rw t at g) ∙ at_next ∙ rw t refl
       ]
 
-      pub corrected_next : {next : List ℕ} → next ≡ corrects mine theirs base r.a r.b degrees → next ≡ degreesOnWay (r.a + 1) r.b
+      pub corrected_next : {next : List ℕ} → next ≡ corrects mine theirs base r.a r.b degrees → next ≡ degrees_on_way (r.a + 1) r.b
       corrected_next g = settles_one g ∙ ap (λ es. degrees_of es n) (walk_step settles theirs base idle mine r.a r.b refl refl)
 
   -- ---- at the end

@@ -21,7 +21,7 @@ use Rattle.edits.specs.Edit.{add_call, added, edited, remove_call, removed}
 use Rattle.merge.proofs.BitOrder.{row_below_more, row_below}
 use Rattle.merge.proofs.MergeLaws.{chosen, chosen_was, new, old, taking}
 use Rattle.merge.proofs.PairOrder.{halfway_next}
-use Rattle.merge.proofs.Way.{fits, on_the_way, way_shows, wayStart, wayState}
+use Rattle.merge.proofs.Way.{fits, on_the_way, way_shows, way_start, way_state}
 use Rattle.merge.specs.Reconcile.{over_pairs, over_row, reconcile_call, reconciled}
 use Rattle.merge.specs.Single.{Accepts, addition, Change, change_each, changes, make, pairs_below, removal}
 
@@ -82,7 +82,7 @@ module _ (s : State) (theirs base : List ℕ) (z : (reconcile_call s theirs base
 
   -- the pair that comes next on the way, where it is chosen
   named : (on : Bool) (a b : ℕ) → a < b → b < size s → chosen (graph s) (edge theirs) (edge base) on a b ≡ true
-      → Named (size s) (graph (wayState s theirs base on b a)) a b (not on)
+      → Named (size s) (graph (way_state s theirs base on b a)) a b (not on)
   named on a b h l q = record {
     first = omega arith;
     second = l;
@@ -93,11 +93,11 @@ module _ (s : State) (theirs base : List ℕ) (z : (reconcile_call s theirs base
   }
 
   one : (on : Bool) (a b : ℕ) → a < b → b < size s
-      → Accepts (wayState s theirs base on b a) (change_each (single on) (chosen (graph s) (edge theirs) (edge base) on) ((a, b) ∷ []))
-      (taking (graph s) (edge theirs) (edge base) on a b (wayState s theirs base on b a))
+      → Accepts (way_state s theirs base on b a) (change_each (single on) (chosen (graph s) (edge theirs) (edge base) on) ((a, b) ∷ []))
+      (taking (graph s) (edge theirs) (edge base) on a b (way_state s theirs base on b a))
   unfolding over_row added edited
   one true a b h l =
-      let t = wayState s theirs base true b a in
+      let t = way_state s theirs base true b a in
       let w = way_shows s theirs base (fits s theirs base z) true a b (omega arith) l in
       elim (test (chosen (graph s) (edge theirs) (edge base) true a b)) [
         | inl q ↦ rw q (addition_made t w.nodes w.fits a b (named true a b h l q)
@@ -105,7 +105,7 @@ module _ (s : State) (theirs base : List ℕ) (z : (reconcile_call s theirs base
         | inr q ↦ rw q refl
       ]
   one false a b h l =
-      let t = wayState s theirs base false b a in
+      let t = way_state s theirs base false b a in
       let w = way_shows s theirs base (fits s theirs base z) false a b (omega arith) l in
       elim (test (chosen (graph s) (edge theirs) (edge base) false a b)) [
         | inl q ↦ rw q (removal_made t w.nodes w.fits a b (named false a b h l q)
@@ -117,14 +117,14 @@ module _ (s : State) (theirs base : List ℕ) (z : (reconcile_call s theirs base
   singles on = change_each (single on) (chosen (graph s) (edge theirs) (edge base) on) (pairs_below (size s))
 
   each : (on : Bool)
-      → Accepts (wayStart s theirs base on) (singles on) (over_pairs (taking (graph s) (edge theirs) (edge base) on) (size s) (wayStart s theirs base on))
+      → Accepts (way_start s theirs base on) (singles on) (over_pairs (taking (graph s) (edge theirs) (edge base) on) (size s) (way_start s theirs base on))
   each on =
       rows_accept (chosen (graph s) (edge theirs) (edge base) on) (single on) (taking (graph s) (edge theirs) (edge base) on) (size s)
-      (wayStart s theirs base on) (one on) (size s) (le_refl (size s))
+      (way_start s theirs base on) (one on) (size s) (le_refl (size s))
 
   -- MADE ONE AFTER THE OTHER, the removals and then the additions in bit order are each accepted, and the last leaves what the reconcile leaves.
   pub single_steps : Accepts s (changes s theirs base) (reconcile_call s theirs base).after
   unfolding changes reconcile_call reconciled
   single_steps =
       rw (outcome_accepted _ s (reconciled s theirs base) (sym (outcome_refusal _ s (reconciled s theirs base)) ∙ z))
-      (accepts_append s (wayStart s theirs base true) (reconciled s theirs base) (singles false) (singles true) (each false) (each true))
+      (accepts_append s (way_start s theirs base true) (reconciled s theirs base) (singles false) (singles true) (each false) (each true))

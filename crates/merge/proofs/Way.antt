@@ -39,19 +39,19 @@ come_within false false m e = or_none m e
 
 module _ (s : State) (theirs base : List ℕ) where
   -- the state before the removals, and before the additions
-  abbrev pub wayStart : Bool → State
-  wayStart false = s
-  wayStart true = over_pairs (removing (graph s) (edge theirs) (edge base)) (size s) s
+  abbrev pub way_start : Bool → State
+  way_start false = s
+  way_start true = over_pairs (removing (graph s) (edge theirs) (edge base)) (size s) s
 
   -- the state on the way, after the rows before b and the first a pairs of b
-  abbrev pub wayState : Bool → ℕ → ℕ → State
-  wayState on b a = over_row (taking (graph s) (edge theirs) (edge base) on) b a (over_pairs (taking (graph s) (edge theirs) (edge base) on) b (wayStart on))
+  abbrev pub way_state : Bool → ℕ → ℕ → State
+  way_state on b a = over_row (taking (graph s) (edge theirs) (edge base) on) b a (over_pairs (taking (graph s) (edge theirs) (edge base) on) b (way_start on))
 
   module _ (f : Fitted (size s) (length s.edges) (length s.marks)) where
     begins : Shows (size s) (graph s) s
     begins = record { nodes = refl; fits = f; links = λ x y hx hy. refl }
 
-    pub way_start_shows : (on : Bool) → Shows (size s) (old (graph s) (edge theirs) (edge base) on) (wayStart on)
+    pub way_start_shows : (on : Bool) → Shows (size s) (old (graph s) (edge theirs) (edge base) on) (way_start on)
     way_start_shows false = begins
     way_start_shows true =
         all_done (graph s) (edge theirs) (edge base) (size s) (Shows (size s)) (shows_kept (size s))
@@ -59,26 +59,26 @@ module _ (s : State) (theirs base : List ℕ) where
 
     module _ (on : Bool) (a b : ℕ) (h : a ≤ b) (l : b < size s) where
       pub way_shows : Shows (size s)
-          (halfway (new (graph s) (edge theirs) (edge base) on) (old (graph s) (edge theirs) (edge base) on) (pair_count b + a)) (wayState on b a)
+          (halfway (new (graph s) (edge theirs) (edge base) on) (old (graph s) (edge theirs) (edge base) on) (pair_count b + a)) (way_state on b a)
       way_shows =
           some_done (graph s) (edge theirs) (edge base) (size s) (Shows (size s)) (shows_kept (size s))
-          (simple_edges s.edges) (simple_edges theirs) (simple_edges base) on a b (wayStart on) h l (way_start_shows on)
+          (simple_edges s.edges) (simple_edges theirs) (simple_edges base) on a b (way_start on) h l (way_start_shows on)
 
-      pub way_lies : Within (size s) (graph (wayState on b a)) (cover (graph s) (edge theirs) (edge base) on)
+      pub way_lies : Within (size s) (graph (way_state on b a)) (cover (graph s) (edge theirs) (edge base) on)
       way_lies = within_agree way_shows.links (way_within (graph s) (edge theirs) (edge base) (size s) on (pair_count b + a))
 
       pub way_few : (which : ℕ → Bool) → too_many (cover (graph s) (edge theirs) (edge base) on) (size s) everyone ≡ false
-          → too_many (graph (wayState on b a)) (size s) which ≡ false
-      way_few which e = within_few (size s) (graph (wayState on b a)) (cover (graph s) (edge theirs) (edge base) on) which way_lies e
+          → too_many (graph (way_state on b a)) (size s) which ≡ false
+      way_few which e = within_few (size s) (graph (way_state on b a)) (cover (graph s) (edge theirs) (edge base) on) which way_lies e
 
     -- the loops, which decide each pair from the state they stand at, start their additions at that state
-    pub way_start_stepped : over_pairs (stepped false (edge theirs) (edge base)) (size s) s ≡ wayStart true
+    pub way_start_stepped : over_pairs (stepped false (edge theirs) (edge base)) (size s) s ≡ way_start true
     way_start_stepped =
         all_same (graph s) (edge theirs) (edge base) (size s) (Shows (size s)) (shows_kept (size s))
         (simple_edges s.edges) (simple_edges theirs) (simple_edges base) false s begins
 
     -- what is still to come lies within the same
-    start_within : (on : Bool) → Within (size s) (cap on (edge theirs) (edge base) (graph (wayStart on))) (cover (graph s) (edge theirs) (edge base) on)
+    start_within : (on : Bool) → Within (size s) (cap on (edge theirs) (edge base) (graph (way_start on))) (cover (graph s) (edge theirs) (edge base) on)
     unfolding cap thinned merged takes
     start_within true x y hx hy q =
         come_within (edge theirs x y) (edge base x y) (graph s x y) (rw ((way_start_shows true).links x y hx hy) at q)
@@ -100,12 +100,12 @@ module _ (s : State) (theirs base : List ℕ) where
         let after = passes (crowded_after g' n everyone) _ (λ e. omega arith) before.1 in (
           eqb-true _ _ (not-false _ c.0),
           eqb-true _ _ (not-false _ d.0),
-          λ on. elim on [ true ↦ after.0 | false ↦ before.0 ],
+          λ on. elim on as (λ k. too_many (cover g (edge theirs) (edge base) k) n everyone ≡ false) [ true ↦ after.0 | false ↦ before.0 ],
         )
 
     -- what the loops need at the state before the removals, and before the additions
     ready_way : Fitted (size s) (length s.edges) (length s.marks) → (on : Bool) {t : State}
-        → t ≡ wayStart on → Ready on theirs base t
+        → t ≡ way_start on → Ready on theirs base t
     ready_way f on e =
         let w = way_start_shows f on in
         let n = w.nodes in
@@ -128,9 +128,9 @@ module _ (s : State) (theirs base : List ℕ) where
     unfolding reconcile_call
     tested = sym (lengths_pass s _ fits) ∙ sym (outcome_refusal _ s (reconciled s theirs base)) ∙ z
 
-    pub ready : (on : Bool) {t : State} → t ≡ wayStart on → Ready on theirs base t
+    pub ready : (on : Bool) {t : State} → t ≡ way_start on → Ready on theirs base t
     ready on e = ready_way tested fits on e
 
     -- SO ON THE WAY no node has too many edges
-    pub on_the_way : (on : Bool) (a b : ℕ) → a ≤ b → b < size s → (which : ℕ → Bool) → too_many (graph (wayState on b a)) (size s) which ≡ false
+    pub on_the_way : (on : Bool) (a b : ℕ) → a ≤ b → b < size s → (which : ℕ → Bool) → too_many (graph (way_state on b a)) (size s) which ≡ false
     on_the_way on a b h l which = way_few fits on a b h l which ((reconcile_accepted tested).2 on)

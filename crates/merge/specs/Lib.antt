@@ -2,7 +2,6 @@
 pub mod Reconcile
 pub mod Single
 pub mod Pinned
-pub mod BroughtLent
 pub mod Alike
 pub mod Conflict
 pub mod KeptOnPurpose

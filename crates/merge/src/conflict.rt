@@ -4,8 +4,7 @@ ghost use Rattle.packed.specs.Edges.{edge};
 ghost use Rattle.packed.specs.Pairs.{any_pair, max_nodes, pair_count};
 ghost use Rattle.packed.specs.Inside.Search.{FirstFrom, WordHas};
 ghost use Rattle.merge.specs.Conflict.{conflict_call};
-ghost use Rattle.merge.specs.BroughtLent.{brought_at_entry, brought_now};
-ghost use Rattle.merge.specs.Pinned.{in_conflict};
+ghost use Rattle.merge.specs.Pinned.{in_conflict, brought};
 ghost use Rattle.merge.specs.Inside.Bitwise.{conflict_bit, Rooms};
 
 use crate::changed::pair_at;
@@ -34,8 +33,8 @@ fn conflicts_at(
     base: &[u8],
     k: usize,
 ) -> u64
-    requires { Rooms (8 * k) edges.now (brought_now pins theirs their_pins base) }
-    ensures { WordHas (conflict_bit edges.now (brought_at_entry pins theirs their_pins base)) k result }
+    requires { Rooms (8 * k) edges.now (brought pins.now theirs.now their_pins.now base.now) }
+    ensures { WordHas (conflict_bit edges.now (brought pins.now theirs.now their_pins.now base.now)) k result }
 {
     let mine = word_at(edges, k);
     let other = word_at(theirs, k);
@@ -54,8 +53,8 @@ fn conflict_bit(
     base: &[u8],
     end: usize,
 ) -> usize
-    requires { Rooms end edges.now (brought_now pins theirs their_pins base) }
-    ensures { FirstFrom (conflict_bit edges.now (brought_at_entry pins theirs their_pins base)) 0 end result }
+    requires { Rooms end edges.now (brought pins.now theirs.now their_pins.now base.now) }
+    ensures { FirstFrom (conflict_bit edges.now (brought pins.now theirs.now their_pins.now base.now)) 0 end result }
 {
     let mut i: usize = 0;
     while i < end {
@@ -82,8 +81,8 @@ pub(crate) fn any_conflict(
     base: &[u8],
     n: usize,
 ) -> bool
-    requires { (n ≤ max_nodes) × Rooms (pair_count n) edges.now (brought_now pins theirs their_pins base) }
-    ensures { result ≡ any_pair (in_conflict (edge edges.now) (brought_at_entry pins theirs their_pins base)) n }
+    requires { (n ≤ max_nodes) × Rooms (pair_count n) edges.now (brought pins.now theirs.now their_pins.now base.now) }
+    ensures { result ≡ any_pair (in_conflict (edge edges.now) (brought pins.now theirs.now their_pins.now base.now)) n }
 {
     let end = row_start(n);
     conflict_bit(edges, pins, theirs, their_pins, base, end) != end
@@ -98,7 +97,7 @@ pub fn first_conflict(
     their_pins: &[u8],
     base: &[u8],
 ) -> Conflict
-    ensures { result ≡ conflict_call edges.now n (brought_at_entry pins theirs their_pins base) }
+    ensures { result ≡ conflict_call edges.now n (brought pins.now theirs.now their_pins.now base.now) }
 {
     let lengths = edge_refusal(n, edges.len());
     if lengths != 0 {

@@ -3,8 +3,7 @@ ghost use Rattle.std.specs.Prelude.{[], ◌∷◌, ◌≡◌, ◌≤◌};
 ghost use Rattle.packed.specs.Pairs.{max_nodes};
 ghost use Rattle.state.specs.Refusal.{buffer_length, refusal};
 ghost use Rattle.state.specs.Sizes.{edge_bytes};
-ghost use Rattle.merge.specs.BroughtLent.{brought_at_entry};
-ghost use Rattle.merge.specs.Pinned.{brought_lengths};
+ghost use Rattle.merge.specs.Pinned.{brought_lengths, brought};
 
 use state::refusal::LENGTH;
 use state::sizes::edge_bytes;
@@ -33,7 +32,7 @@ pub(crate) fn brought_refusal(
     base: &[u8],
 ) -> u64
     requires { n ≤ max_nodes }
-    ensures { result ≡ refusal (brought_lengths n (brought_at_entry pins theirs their_pins base)) }
+    ensures { result ≡ refusal (brought_lengths n (brought pins.now theirs.now their_pins.now base.now)) }
 {
     let first = two_refusal(n, pins.len(), theirs.len());
     if first != 0 {

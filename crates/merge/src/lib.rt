@@ -1,4 +1,6 @@
 // Reconcile two editors' graphs.
+#![tactic(auto)]
+
 pub mod changed;
 pub mod conflict;
 pub mod lengths;

@@ -4,9 +4,8 @@ ghost use Rattle.packed.specs.Edges.{edge};
 ghost use Rattle.packed.specs.Inside.Room.{Room};
 ghost use Rattle.state.specs.Refusal.{refusal};
 ghost use Rattle.state.specs.Outcome.{left};
-ghost use Rattle.state.specs.Lent.{at_entry, at_exit};
-ghost use Rattle.merge.specs.BroughtLent.{brought_at_entry};
-ghost use Rattle.merge.specs.Pinned.{pinned_call, pinned_conditions};
+ghost use Rattle.merge.specs.Pinned.{pinned_call, pinned_conditions, brought};
+ghost use Rattle.state.specs.State.{state};
 
 use crate::conflict::any_conflict;
 use crate::lengths::brought_refusal;
@@ -27,7 +26,7 @@ fn pinned_refusal(
     n: usize,
 ) -> u64
     requires { Room n edges.now }
-    ensures { result ≡ refusal (pinned_conditions n (edge edges.now) (brought_at_entry pins theirs their_pins base)) }
+    ensures { result ≡ refusal (pinned_conditions n (edge edges.now) (brought pins.now theirs.now their_pins.now base.now)) }
 {
     let brought = brought_refusal(n, pins, theirs, their_pins, base);
     if brought != 0 {
@@ -53,7 +52,7 @@ pub fn reconcile_pinned(
     their_pins: &[u8],
     base: &[u8],
 ) -> u64
-    ensures { left result (at_exit edges figures marks) ≡ pinned_call (at_entry edges figures marks) (brought_at_entry pins theirs their_pins base) }
+    ensures { left result (state edges.new figures.new marks.new) ≡ pinned_call (state edges.old figures.old marks.old) (brought pins.now theirs.now their_pins.now base.now) }
 {
     let n = figures.len();
     let lengths = state_refusal(n, edges.len(), marks.len());

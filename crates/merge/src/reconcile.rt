@@ -5,9 +5,9 @@ ghost use Rattle.packed.specs.Inside.Degrees.{degrees_of};
 ghost use Rattle.packed.specs.Inside.Room.{Room};
 ghost use Rattle.state.specs.Refusal.{crowded_after, everyone, refusal};
 ghost use Rattle.state.specs.Outcome.{left};
-ghost use Rattle.state.specs.Lent.{at_entry, at_exit};
 ghost use Rattle.merge.specs.Reconcile.{merged, reconcile_call};
 ghost use Rattle.merge.specs.Inside.Steps.{merge_conditions};
+ghost use Rattle.state.specs.State.{state};
 
 use crate::lengths::two_refusal;
 use crate::merged::corrected;
@@ -60,7 +60,7 @@ pub fn reconcile(
     theirs: &[u8],
     base: &[u8],
 ) -> u64
-    ensures { left result (at_exit edges figures marks) ≡ reconcile_call (at_entry edges figures marks) theirs.now base.now }
+    ensures { left result (state edges.new figures.new marks.new) ≡ reconcile_call (state edges.old figures.old marks.old) theirs.now base.now }
 {
     let n = figures.len();
     let lengths = state_refusal(n, edges.len(), marks.len());

@@ -3,7 +3,7 @@ ghost use Rattle.std.specs.Prelude.{◌≡◌, ◌<◌, length};
 ghost use Rattle.packed.specs.Edges.{edge};
 ghost use Rattle.merge.specs.Reconcile.{reconcile_call, reconciled};
 ghost use Rattle.merge.specs.Inside.Steps.{Ready, stepped, all_stepped};
-ghost use Rattle.state.specs.Lent.{at_entry, at_exit, lent};
+ghost use Rattle.state.specs.State.{state};
 
 use crate::changed::next_pair;
 use crate::merged::takes;
@@ -21,8 +21,8 @@ fn take(
     b: usize,
     on: bool,
 )
-    requires { (a < b) × (b < length figures.old) × Ready on theirs.now base.now (lent edges figures marks) }
-    ensures { at_exit edges figures marks ≡ stepped on (edge theirs.now) (edge base.now) a b (at_entry edges figures marks) }
+    requires { (a < b) × (b < length figures.old) × Ready on theirs.now base.now (state edges.old figures.old marks.old) }
+    ensures { state edges.new figures.new marks.new ≡ stepped on (edge theirs.now) (edge base.now) a b (state edges.old figures.old marks.old) }
 {
     if !takes(edges, theirs, base, a, b) {
         return;
@@ -41,8 +41,8 @@ pub(crate) fn take_all(
     base: &[u8],
     on: bool,
 )
-    requires { Ready on theirs.now base.now (lent edges figures marks) }
-    ensures { at_exit edges figures marks ≡ all_stepped on theirs.now base.now (at_entry edges figures marks) }
+    requires { Ready on theirs.now base.now (state edges.old figures.old marks.old) }
+    ensures { state edges.new figures.new marks.new ≡ all_stepped on theirs.now base.now (state edges.old figures.old marks.old) }
 {
     let n = figures.len();
     let mut a: usize = 0;
@@ -67,8 +67,8 @@ pub(crate) fn take_theirs(
     theirs: &[u8],
     base: &[u8],
 )
-    requires { (reconcile_call (lent edges figures marks) theirs.now base.now).refusal ≡ 0 }
-    ensures { at_exit edges figures marks ≡ reconciled (at_entry edges figures marks) theirs.now base.now }
+    requires { (reconcile_call (state edges.old figures.old marks.old) theirs.now base.now).refusal ≡ 0 }
+    ensures { state edges.new figures.new marks.new ≡ reconciled (state edges.old figures.old marks.old) theirs.now base.now }
 {
     take_all(edges, figures, marks, theirs, base, false);
     take_all(edges, figures, marks, theirs, base, true);

@@ -55,24 +55,24 @@ off_is b i h = rw (mask_is (i % 8) (omega arith)) (and_not_is 8 b (7 - i % 8) h 
 -- ---- words of w bits: bit i is digit w - 1 - i % w of word i / w
 
 module _ (w : ℕ) (z : 0 < w) where
-  abbrev bitIn : List ℕ → ℕ → Bool
-  bitIn xs i = bit_of (get_or xs (i / w) 0) (w - 1 - i % w)
+  abbrev bit_in : List ℕ → ℕ → Bool
+  bit_in xs i = bit_of (get_or xs (i / w) 0) (w - 1 - i % w)
 
   -- with its bit i replaced
-  abbrev pub withIn : List ℕ → ℕ → Bool → List ℕ
-  withIn xs i on = set xs (i / w) (with_digit (get_or xs (i / w) 0) (w - 1 - i % w) (bit on))
+  abbrev pub with_in : List ℕ → ℕ → Bool → List ℕ
+  with_in xs i on = set xs (i / w) (with_digit (get_or xs (i / w) 0) (w - 1 - i % w) (bit on))
 
   here : (i j : ℕ) → j / w ≡ i / w → w - 1 - j % w ≡ w - 1 - i % w → j ≡ i
   here i j e f = omega (arith, div-add-mod i w, div-add-mod j w, mod-lt i z, mod-lt j z, ap (λ k. w * k) e)
 
-  pub in_same : (xs : List ℕ) (i : ℕ) (on : Bool) → i / w < length xs → bitIn (withIn xs i on) i ≡ on
+  pub in_same : (xs : List ℕ) (i : ℕ) (on : Bool) → i / w < length xs → bit_in (with_in xs i on) i ≡ on
   unfolding bit_of
   in_same xs i on h =
       let x : ℕ = get_or xs (i / w) 0 in
       let k : ℕ = w - 1 - i % w in
       rw (get_or-set_same xs (i / w) (with_digit x k (bit on)) 0 h, with_same x k (bit on) (bit_two on)) (bit_back on)
 
-  pub in_other : (xs : List ℕ) (i j : ℕ) (on : Bool) → j ≢ i → bitIn (withIn xs i on) j ≡ bitIn xs j
+  pub in_other : (xs : List ℕ) (i j : ℕ) (on : Bool) → j ≢ i → bit_in (with_in xs i on) j ≡ bit_in xs j
   unfolding bit_of
   in_other xs i j on n =
       let x : ℕ = get_or xs (i / w) 0 in
@@ -83,10 +83,10 @@ module _ (w : ℕ) (z : 0 < w) where
               (ap (λ (y : ℕ). eqb y 1) (with_other x k (bit on) (bit_two on) (w - 1 - j % w) (λ q. n (here i j e q))))
           | no d ↦ ap (λ (y : ℕ). eqb (digit y (w - 1 - j % w)) 1) (get_or-set_other xs (i / w) (j / w) _ 0 d)
         ]
-        | no h ↦ ap (λ l. bitIn l j) (set_out xs (i / w) _ (omega arith))
+        | no h ↦ ap (λ l. bit_in l j) (set_out xs (i / w) _ (omega arith))
       ]
 
-  pub in_lt : (xs : List ℕ) (i : ℕ) (on : Bool) → ((k : ℕ) → get_or xs k 0 < 2 ^ w) → (k : ℕ) → get_or (withIn xs i on) k 0 < 2 ^ w
+  pub in_lt : (xs : List ℕ) (i : ℕ) (on : Bool) → ((k : ℕ) → get_or xs k 0 < 2 ^ w) → (k : ℕ) → get_or (with_in xs i on) k 0 < 2 ^ w
   in_lt xs i on f k =
       let x : ℕ = get_or xs (i / w) 0 in
       let d : ℕ = w - 1 - i % w in
@@ -100,7 +100,7 @@ module _ (w : ℕ) (z : 0 < w) where
 
   -- they are known by their bits
   pub same_words : (xs ys : List ℕ) → length xs ≡ length ys → ((k : ℕ) → get_or xs k 0 < 2 ^ w) → ((k : ℕ) → get_or ys k 0 < 2 ^ w)
-      → ((i : ℕ) → i < w * length xs → bitIn xs i ≡ bitIn ys i) → xs ≡ ys
+      → ((i : ℕ) → i < w * length xs → bit_in xs i ≡ bit_in ys i) → xs ≡ ys
   same_words xs ys e f g h = ext_get_or 0 xs ys e (λ q l. bits_eq w (get_or xs q 0) (get_or ys q 0) (f q) (g q) (λ k b.
       let r : ℕ = w - 1 - k in
       let i : ℕ = r + q * w in
@@ -113,7 +113,7 @@ module _ (w : ℕ) (z : 0 < w) where
       rw (eq, ek) at t))
 
   -- made of their bits
-  pub bit_packed : (f : ℕ → Bool) (m i : ℕ) → i < w * m → bitIn (tabulate (λ k. pack_to (λ j. f (w * k + (w - 1 - j))) w) m) i ≡ f i
+  pub bit_packed : (f : ℕ → Bool) (m i : ℕ) → i < w * m → bit_in (tabulate (λ k. pack_to (λ j. f (w * k + (w - 1 - j))) w) m) i ≡ f i
   bit_packed f m i h =
       let j : ℕ = w - 1 - i % w in
       let low : i % w < w = mod-lt i z in

@@ -24,8 +24,8 @@ use Rattle.arith.proofs.Digits.{or_is}
 use Rattle.arith.specs.Digits.{bit_of, with_digit}
 use Rattle.arith.specs.Lists.{filter, range}
 use Rattle.arith.specs.Sums.{bit, count_to, pack_to, sum_to}
-use Rattle.arith.specs.Inside.Fill.{fillTo}
-use Rattle.packed.proofs.BitLaws.{bit_packed, bit_two, in_lt, in_other, in_same, packed_lt, same_words, withIn}
+use Rattle.arith.specs.Inside.Fill.{fill_to}
+use Rattle.packed.proofs.BitLaws.{bit_packed, bit_two, in_lt, in_other, in_same, packed_lt, same_words, with_in}
 use Rattle.packed.proofs.FirstLaws.{Top, top_rest}
 use Rattle.packed.proofs.RunLaws.{run_bit, run_cat, run_clear, run_ext, run_lt, run_zero}
 use Rattle.packed.specs.Bits.{word_of}
@@ -210,7 +210,7 @@ set_put f g q h t o =
     let wide = length_tabulate (λ k. pack_to (λ j. g (32 * k + (31 - j))) 32) 8 in
     let same = length-set l (q / 32) (with_digit (get_or l (q / 32) 0) k 1) in
     ap (set l (q / 32)) (or_is (get_or l (q / 32) 0) k)
-    ∙ same_words 32 z (withIn 32 z l q true) (set_of g) (same ∙ long ∙ sym wide) (in_lt 32 z l q true (packed_lt 32 z f 8)) (packed_lt 32 z g 8) (λ i b.
+    ∙ same_words 32 z (with_in 32 z l q true) (set_of g) (same ∙ long ∙ sym wide) (in_lt 32 z l q true (packed_lt 32 z f 8)) (packed_lt 32 z g 8) (λ i b.
     let few : i < max_nodes = omega (arith, same, long) in
     elim (ℕ_discrete i q) [
       | yes e ↦ rw e (in_same 32 z l q true (omega (arith, long))) ∙ sym (bit_packed 32 z g 8 i few ∙ ap g e ∙ t)
@@ -242,12 +242,12 @@ module _ (es : List ℕ) (n p : ℕ) where
   unfolding row_of set_of
   row_long = length_tabulate (λ k. pack_to (λ j. neighbour (32 * k + (31 - j))) 32) 8
 
-  abbrev pub rowWord : ℕ → ℕ
-  rowWord k = pack_to (λ j. neighbour (32 * k + (31 - j))) 32
+  abbrev pub word_of_row : ℕ → ℕ
+  word_of_row k = pack_to (λ j. neighbour (32 * k + (31 - j))) 32
 
   -- as code shifts a word of the nodes before `end` to its place
   pub row_word : (k end : ℕ) {x : ℕ} → end ≡ min (32 * k + 32) n → 32 * k < n → x ≡ word_of (edge es p) (32 * k) (end - 32 * k)
-      → (x * 2 ^ (32 * k + 32 - end) % 2 ^ 64 ≡ rowWord k) × (rowWord k < 2 ^ 32)
+      → (x * 2 ^ (32 * k + 32 - end) % 2 ^ 64 ≡ word_of_row k) × (word_of_row k < 2 ^ 32)
   row_word k end {x} e h g =
       let i : ℕ = 32 * k in
       let a : ℕ = end - i in
@@ -261,10 +261,10 @@ module _ (es : List ℕ) (n p : ℕ) where
       )
 
   -- the words past n are 0
-  pub row_filled : (k : ℕ) → k ≤ 8 → n ≤ 32 * k → fillTo rowWord (replicate 8 0) k ≡ row_of es n p
+  pub row_filled : (k : ℕ) → k ≤ 8 → n ≤ 32 * k → fill_to word_of_row (replicate 8 0) k ≡ row_of es n p
   unfolding row_of set_of
   row_filled k h l =
-      fill_rest rowWord (replicate 8 0) 0 k h (λ i a b. get_or-replicate 8 i 0 0 b
+      fill_rest word_of_row (replicate 8 0) 0 k h (λ i a b. get_or-replicate 8 i 0 0 b
       ∙ sym (sym (word_packed neighbour (32 * i) 32) ∙ run_clear neighbour (32 * i) 32 (λ j c. neighbour_past (32 * i + j) (omega arith))))
 
   -- the next node

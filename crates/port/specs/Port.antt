@@ -4,12 +4,10 @@ use Rattle.std.specs.Prelude.{cond, true, List, ◌≡◌, ℕ, ◌+◌, ◌*◌
 use Rattle.merge.specs.Conflict.{Answer as Conflicting}
 use Rattle.nearest.specs.Nearest.{Answer as Nearby}
 use Rattle.packed.specs.Pairs.{max_nodes, pair_index}
-use Rattle.state.specs.Lent.{at_entry, at_exit, Moments}
 use Rattle.state.specs.Refusal.{one_number}
 use Rattle.state.specs.State.{State}
 use Rattle.topk.specs.declared.entries.Entry.{Entry}
 use Rattle.topk.specs.List.{Listed, list_call}
-use Rattle.topk.specs.ListLent.{EntryMoments}
 use Rattle.listing.specs.Records.{entries_call}
 use Rattle.schedule.specs.Change.{minutes, Next}
 use Rattle.survey.specs.Position.{Answer}
@@ -33,13 +31,6 @@ port_list s entries scratch = as_one (list_call s entries scratch)
 
 abbrev pub port_entries : State → List Entry → List ℕ → Ported Entry
 port_entries s entries scratch = as_one (entries_call s entries scratch)
-
--- such a call of what is lent at entry, and an answer with what is lent at exit
-abbrev pub at_port_entry : {A : Type 0} → (State → List A → List ℕ → Ported A) → Moments → Moments → Moments → EntryMoments A → Moments → Ported A
-at_port_entry call links figures marks entries scratch = call (at_entry links figures marks) entries.entry.now scratch.entry.now
-
-abbrev pub at_port_exit : {A : Type 0} → ℕ → Moments → Moments → Moments → EntryMoments A → Moments → Ported A
-at_port_exit answer links figures marks entries scratch = ported answer (at_exit links figures marks) entries.exit.now scratch.exit.now
 
 -- the next change: the minute, and the number past the last minute for none
 abbrev pub as_one_change : Next → ℕ

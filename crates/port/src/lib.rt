@@ -1,20 +1,21 @@
 // For comparison with other programs only: the calls that the C interface leaves out, with figures as 64-bit numbers.
+#![tactic(auto)]
+
 ghost use Rattle.std.specs.Prelude.{◌≡◌};
-ghost use Rattle.merge.specs.BroughtLent.{brought_at_entry};
-ghost use Rattle.merge.specs.Conflict.{conflict_call, numbers_of as conflictNumbers};
-ghost use Rattle.merge.specs.Pinned.{pinned_call};
+ghost use Rattle.merge.specs.Conflict.{conflict_call, numbers_of as conflict_numbers};
+ghost use Rattle.merge.specs.Pinned.{pinned_call, brought};
 ghost use Rattle.merge.specs.Reconcile.{reconcile_call};
-ghost use Rattle.nearest.specs.Nearest.{answer_of as nearestAnswer, numbers_of as nearestNumbers};
+ghost use Rattle.nearest.specs.Nearest.{answer_of as nearest_answer, numbers_of as nearest_numbers};
 ghost use Rattle.preview.specs.Preview.{preview_add_call, previewed, preview_remove_call};
 ghost use Rattle.schedule.specs.Change.{next_of, numbers_of};
 ghost use Rattle.schedule.specs.Sheet.{load_at_call, write_at_call};
-ghost use Rattle.survey.specs.Position.{answer_of, numbers_of as positionNumbers};
+ghost use Rattle.survey.specs.Position.{answer_of, numbers_of as position_numbers};
 ghost use Rattle.survey.specs.Sheet.{sheet_call};
 ghost use Rattle.state.specs.Outcome.{left};
 ghost use Rattle.state.specs.Refusal.{one_number};
-ghost use Rattle.state.specs.Lent.{at_entry, at_exit};
 ghost use Rattle.calls.specs.Snapshot.{load_call, written, write_call};
-ghost use Rattle.port.specs.Port.{as_one_change, as_one_conflict, as_one_nearest, as_one_record, NamesOne, NamesTwo, at_port_entry, at_port_exit, port_entries, port_list};
+ghost use Rattle.port.specs.Port.{as_one_change, as_one_conflict, as_one_nearest, as_one_record, NamesOne, NamesTwo, port_entries, port_list, ported};
+ghost use Rattle.state.specs.State.{state};
 
 use calls::snapshot::{load, write};
 use listing::records::list_entries;
@@ -41,7 +42,7 @@ pub extern "C" fn fj_port_load(
     marks: &mut [u8],
     sheet: &[u8],
 ) -> u64
-    ensures { left result (at_exit links figures marks) ≡ load_call (at_entry links figures marks) sheet.now }
+    ensures { left result (state links.new figures.new marks.new) ≡ load_call (state links.old figures.old marks.old) sheet.now }
 {
     load(links, figures, marks, sheet)
 }
@@ -54,7 +55,7 @@ pub extern "C" fn fj_port_write(
     marks: &[u8],
     sheet: &mut [u8],
 ) -> u64
-    ensures { written result sheet.new ≡ write_call (at_entry links figures marks) sheet.old }
+    ensures { written result sheet.new ≡ write_call (state links.now figures.now marks.now) sheet.old }
 {
     write(links, figures, marks, sheet)
 }
@@ -75,7 +76,7 @@ pub extern "C" fn fj_port_list(
     entries: &mut [u64],
     scratch: &mut [u8],
 ) -> u64
-    ensures { at_port_exit result links figures marks entries scratch ≡ at_port_entry port_list links figures marks entries scratch }
+    ensures { ported result (state links.now figures.new marks.new) entries.new scratch.new ≡ port_list (state links.now figures.old marks.old) entries.old scratch.old }
 {
     number_of(list(links, figures, marks, entries, scratch))
 }
@@ -89,7 +90,7 @@ pub extern "C" fn fj_port_list_entries(
     entries: &mut [Entry],
     scratch: &mut [u8],
 ) -> u64
-    ensures { at_port_exit result links figures marks entries scratch ≡ at_port_entry port_entries links figures marks entries scratch }
+    ensures { ported result (state links.now figures.new marks.new) entries.new scratch.new ≡ port_entries (state links.now figures.old marks.old) entries.old scratch.old }
 {
     number_of(list_entries(links, figures, marks, entries, scratch))
 }
@@ -103,7 +104,7 @@ pub extern "C" fn fj_port_reconcile(
     theirs: &[u8],
     original: &[u8],
 ) -> u64
-    ensures { left result (at_exit links figures marks) ≡ reconcile_call (at_entry links figures marks) theirs.now original.now }
+    ensures { left result (state links.new figures.new marks.new) ≡ reconcile_call (state links.old figures.old marks.old) theirs.now original.now }
 {
     reconcile(links, figures, marks, theirs, original)
 }
@@ -119,7 +120,7 @@ pub extern "C" fn fj_port_reconcile_pinned(
     their_pins: &[u8],
     original: &[u8],
 ) -> u64
-    ensures { left result (at_exit links figures marks) ≡ pinned_call (at_entry links figures marks) (brought_at_entry pins theirs their_pins original) }
+    ensures { left result (state links.new figures.new marks.new) ≡ pinned_call (state links.old figures.old marks.old) (brought pins.now theirs.now their_pins.now original.now) }
 {
     reconcile_pinned(links, figures, marks, pins, theirs, their_pins, original)
 }
@@ -129,8 +130,8 @@ const NO_CONFLICT: u64 = 4294967296;
 
 // A conflict as one number: the bit of its pair, or that there is none, or 2^64 less the refusal number.
 fn number_of_conflict(conflict: Conflict) -> u64
-    requires { NamesTwo (conflictNumbers conflict) }
-    ensures { result ≡ as_one_conflict (conflictNumbers conflict) }
+    requires { NamesTwo (conflict_numbers conflict) }
+    ensures { result ≡ as_one_conflict (conflict_numbers conflict) }
 {
     match conflict {
         Conflict::Between { a, b } => index(a, b) as u64,
@@ -149,7 +150,7 @@ pub extern "C" fn fj_port_conflict(
     their_pins: &[u8],
     original: &[u8],
 ) -> u64
-    ensures { result ≡ as_one_conflict (conflictNumbers (conflict_call links.now n (brought_at_entry pins theirs their_pins original))) }
+    ensures { result ≡ as_one_conflict (conflict_numbers (conflict_call links.now n (brought pins.now theirs.now their_pins.now original.now))) }
 {
     number_of_conflict(first_conflict(links, n as usize, pins, theirs, their_pins, original))
 }
@@ -159,8 +160,8 @@ const NO_POST: u64 = 4294967296;
 
 // The nearest listed post as one number: its hop count times 65,536 and the post, or that there is none, or 2^64 less the refusal number.
 fn number_of_nearest(nearest: Nearest) -> u64
-    requires { NamesOne (nearestNumbers nearest) }
-    ensures { result ≡ as_one_nearest (nearestNumbers nearest) }
+    requires { NamesOne (nearest_numbers nearest) }
+    ensures { result ≡ as_one_nearest (nearest_numbers nearest) }
 {
     match nearest {
         Nearest::At { node, hops } => hops as u64 * 65536 + node as u64,
@@ -172,7 +173,7 @@ fn number_of_nearest(nearest: Nearest) -> u64
 // The listed post reachable over the fewest links, within a limit of hops.
 #[unsafe(no_mangle)]
 pub extern "C" fn fj_port_nearest(links: &[u8], n: u64, post: u64, listed: &[u64], hops: u8) -> u64
-    ensures { result ≡ as_one_nearest (nearestAnswer links.now n post listed.now hops) }
+    ensures { result ≡ as_one_nearest (nearest_answer links.now n post listed.now hops) }
 {
     number_of_nearest(nearest_listed(links, n as usize, post as usize, listed, hops))
 }
@@ -187,7 +188,7 @@ pub extern "C" fn fj_port_preview_add(
     a: u64,
     b: u64,
 ) -> u64
-    ensures { previewed result changes.new ≡ preview_add_call (at_entry links figures marks) changes.old a b }
+    ensures { previewed result changes.new ≡ preview_add_call (state links.now figures.now marks.now) changes.old a b }
 {
     preview_add(links, figures, marks, changes, a as usize, b as usize)
 }
@@ -202,7 +203,7 @@ pub extern "C" fn fj_port_preview_remove(
     a: u64,
     b: u64,
 ) -> u64
-    ensures { previewed result changes.new ≡ preview_remove_call (at_entry links figures marks) changes.old a b }
+    ensures { previewed result changes.new ≡ preview_remove_call (state links.now figures.now marks.now) changes.old a b }
 {
     preview_remove(links, figures, marks, changes, a as usize, b as usize)
 }
@@ -246,7 +247,7 @@ pub extern "C" fn fj_port_schedule_load(
     schedule: &[u8],
     minute: u16,
 ) -> u64
-    ensures { left result (at_exit links figures marks) ≡ load_at_call (at_entry links figures marks) schedule.now minute }
+    ensures { left result (state links.new figures.new marks.new) ≡ load_at_call (state links.old figures.old marks.old) schedule.now minute }
 {
     load_at(links, figures, marks, schedule, minute)
 }
@@ -269,7 +270,7 @@ const NO_RECORD: u64 = 9223372036854775808;
 
 // A record as one number: its position, or that there is none, or 2^64 less the refusal number.
 fn number_of_record(latest: Latest) -> u64
-    ensures { result ≡ as_one_record (positionNumbers latest) }
+    ensures { result ≡ as_one_record (position_numbers latest) }
 {
     match latest {
         Latest::At { position } => position as u64,

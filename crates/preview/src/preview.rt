@@ -2,10 +2,10 @@
 ghost use Rattle.std.specs.Prelude.{true, ◌≡◌, length};
 ghost use Rattle.packed.specs.Edges.{edge, with_edge};
 ghost use Rattle.edits.specs.Inside.Change.{Editable};
-ghost use Rattle.state.specs.Lent.{at_entry};
 ghost use Rattle.preview.specs.Preview.{preview_add_call, previewed, preview_remove_call};
 ghost use Rattle.preview.specs.Inside.Effect.{change_each};
 ghost use Rattle.preview.specs.Inside.Call.{preview_call};
+ghost use Rattle.state.specs.State.{state};
 
 use crate::changes::{put_change, set_unchanged};
 use crate::effect::effect_of;
@@ -50,7 +50,7 @@ fn preview(
     b: usize,
     on: bool,
 ) -> u64
-    ensures { previewed result changes.new ≡ preview_call (at_entry edges figures marks) changes.old a b on }
+    ensures { previewed result changes.new ≡ preview_call (state edges.now figures.now marks.now) changes.old a b on }
 {
     let n = figures.len();
     let lengths = state_refusal(n, edges.len(), marks.len());
@@ -79,7 +79,7 @@ pub fn preview_add(
     a: usize,
     b: usize,
 ) -> u64
-    ensures { previewed result changes.new ≡ preview_add_call (at_entry edges figures marks) changes.old a b }
+    ensures { previewed result changes.new ≡ preview_add_call (state edges.now figures.now marks.now) changes.old a b }
 {
     preview(edges, figures, marks, changes, a, b, true)
 }
@@ -93,7 +93,7 @@ pub fn preview_remove(
     a: usize,
     b: usize,
 ) -> u64
-    ensures { previewed result changes.new ≡ preview_remove_call (at_entry edges figures marks) changes.old a b }
+    ensures { previewed result changes.new ≡ preview_remove_call (state edges.now figures.now marks.now) changes.old a b }
 {
     preview(edges, figures, marks, changes, a, b, false)
 }

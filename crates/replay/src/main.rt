@@ -1,4 +1,6 @@
 // The script program: replays the script on standard input and prints what comes of it, as 01's "Scripts" says.
+#![tactic(auto)]
+
 mod lines;
 mod records;
 mod space;

@@ -28,30 +28,30 @@ use Rattle.schedule.specs.Inside.Until.{changed_by, changed_to, Lasts, place_of,
 
 module _ (schedule : List ℕ) (t : ℕ) where
   -- the pair of number p at minute m differs from its state at t
-  abbrev differsNo : ℕ → ℕ → Bool
-  differsNo m p = differ (linked_no schedule m p) (linked_no schedule t p)
+  abbrev differs_no : ℕ → ℕ → Bool
+  differs_no m p = differ (linked_no schedule m p) (linked_no schedule t p)
 
   module _ (start end m : ℕ) where
-    differs_at_lem : (p : ℕ) → start ≤ p → p < end → differsNo m p ≡ true → differs_in schedule start end t m ≡ true
+    differs_at_lem : (p : ℕ) → start ≤ p → p < end → differs_no m p ≡ true → differs_in schedule start end t m ≡ true
     unfolding differs_in
     differs_at_lem p l h d = any_to_here _ end p h (rw (le-leb start p l) d)
 
-    differs_never : ((p : ℕ) → start ≤ p → p < end → differsNo m p ≡ false) → differs_in schedule start end t m ≡ false
+    differs_never : ((p : ℕ) → start ≤ p → p < end → differs_no m p ≡ false) → differs_in schedule start end t m ≡ false
     unfolding differs_in
     differs_never d = any_to_never _ end (λ p h. elim (dec_lt p start) [
       | yes l ↦ rw (lt-leb start p l)
       | no l ↦ let low : start ≤ p = omega arith in rw (le-leb start p low) (d p low h)
     ])
 
-    differs_none : differs_in schedule start end t m ≡ false → (p : ℕ) → start ≤ p → p < end → differsNo m p ≡ false
+    differs_none : differs_in schedule start end t m ≡ false → (p : ℕ) → start ≤ p → p < end → differs_no m p ≡ false
     unfolding differs_in
-    differs_none e p l h = rw (le-leb start p l) at (any_to_false (λ q. leb start q && differsNo m q) end e p h)
+    differs_none e p l h = rw (le-leb start p l) at (any_to_false (λ q. leb start q && differs_no m q) end e p h)
 
-    differs_some : differs_in schedule start end t m ≡ true → (p : ℕ) × (start ≤ p) × (p < end) × (differsNo m p ≡ true)
+    differs_some : differs_in schedule start end t m ≡ true → (p : ℕ) × (start ≤ p) × (p < end) × (differs_no m p ≡ true)
     unfolding differs_in
     differs_some e =
-        let s = some_of (λ q. leb start q && differsNo m q) end e in
-        let b = and-true (leb start s.at) (differsNo m s.at) s.passes in
+        let s = some_of (λ q. leb start q && differs_no m q) end e in
+        let b = and-true (leb start s.at) (differs_no m s.at) s.passes in
         (s.at, leb-true start s.at b.0, s.inside, b.1)
 
 -- ---- the first minute at which a pair of the windows so far differs: of no window, and of one window more
@@ -237,7 +237,7 @@ module _ {schedule : List ℕ} {w : Scope} {until : List ℕ} (valid : Valid sch
     stop = changed_most schedule w until (record_count schedule);
     none = λ m a b. differs_never schedule w.t w.start (w.start + window) m (λ p l h.
         let e : w.start + (p - w.start) ≡ p = omega arith in
-        subst (λ q. differsNo schedule w.t m q ≡ false) e (differ_same _ _ (same_before (p - w.start) (omega arith) m (omega arith) b)));
+        subst (λ q. differs_no schedule w.t m q ≡ false) e (differ_same _ _ (same_before (p - w.start) (omega arith) m (omega arith) b)));
     some = λ l.
         let (_, k, h, d) = told_differs (told l) l in
         differs_at_lem schedule w.t w.start (w.start + window) first (w.start + k) (omega arith) (omega arith) d;

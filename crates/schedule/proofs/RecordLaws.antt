@@ -83,29 +83,29 @@ module _ (schedule : List ℕ) where
   abbrev hours : ℕ → Condition
   hours i = no_hours (this i).from (this i).to
 
-  abbrev hoursTo : ℕ → List Condition
-  hoursTo k = tabulate hours k
+  abbrev hours_to : ℕ → List Condition
+  hours_to k = tabulate hours k
 
   -- which is one test
-  abbrev noneTo : ℕ → Bool
-  noneTo k = any_to (λ i. leb (this i).to (this i).from) k
+  abbrev none_to : ℕ → Bool
+  none_to k = any_to (λ i. leb (this i).to (this i).from) k
 
-  hours_tested : (k : ℕ) (cs : List Condition) → refusal (hoursTo k ++ cs) ≡ cond (noneTo k) 13 (refusal cs)
+  hours_tested : (k : ℕ) (cs : List Condition) → refusal (hours_to k ++ cs) ≡ cond (none_to k) 13 (refusal cs)
   unfolding any_to no_hours refusal tabulate
   hours_tested zero cs = refl
   hours_tested (suc k) cs =
-      ap refusal (append_assoc (hoursTo k) (hours k ∷ []) cs) ∙ hours_tested k (hours k ∷ cs) ∙ two_tests (noneTo k) _ 13 (refusal cs)
+      ap refusal (append_assoc (hours_to k) (hours k ∷ []) cs) ∙ hours_tested k (hours k ∷ cs) ∙ two_tests (none_to k) _ 13 (refusal cs)
 
-  hours_alone : (k : ℕ) → refusal (hoursTo k) ≡ cond (noneTo k) 13 0
+  hours_alone : (k : ℕ) → refusal (hours_to k) ≡ cond (none_to k) 13 0
   unfolding refusal
-  hours_alone k = ap refusal (sym (append-nil (hoursTo k))) ∙ hours_tested k []
+  hours_alone k = ap refusal (sym (append-nil (hours_to k))) ∙ hours_tested k []
 
   -- a record more
-  hours_more : (i : ℕ) → refusal (hoursTo (suc i)) ≡ earlier (refusal (hoursTo i)) (refusal (hours i ∷ []))
+  hours_more : (i : ℕ) → refusal (hours_to (suc i)) ≡ earlier (refusal (hours_to i)) (refusal (hours i ∷ []))
   unfolding any_to earlier no_hours refusal
   hours_more i =
       hours_alone (suc i)
-      ∙ sym (ap (λ x. earlier x (refusal (hours i ∷ []))) (hours_alone i) ∙ earlier_tests (noneTo i) _ 13 0 0 (omega arith) (from_none 13) (from_none 13))
+      ∙ sym (ap (λ x. earlier x (refusal (hours i ∷ []))) (hours_alone i) ∙ earlier_tests (none_to i) _ 13 0 0 (omega arith) (from_none 13) (from_none 13))
 
   hours_from : (t : Bool) → From 5 (cond t 13 0)
   hours_from t = from_more 5 t 13 0 (omega arith) (from_none 13)
@@ -120,8 +120,8 @@ module _ (schedule : List ℕ) where
   unfolding conditions_to no_hours refusal tabulate
   conditions_more i =
       ap (λ k. refusal (conditions_to schedule k)) (add-one i)
-      ∙ pairs_more n (pairs_to i) (((this i).a, (this i).b) ∷ []) (hoursTo i) (hours i ∷ []) (hoursTo (suc i))
-      (subst (From 5) (sym (hours_alone i)) (hours_from (noneTo i))) (hours_from (hours i).1) (hours_more i)
+      ∙ pairs_more n (pairs_to i) (((this i).a, (this i).b) ∷ []) (hours_to i) (hours i ∷ []) (hours_to (suc i))
+      (subst (From 5) (sym (hours_alone i)) (hours_from (none_to i))) (hours_from (hours i).1) (hours_more i)
 
   -- records that pass: their pairs do, and they have hours
   module _ (e : refusal (record_conditions schedule) ≡ 0) where
@@ -130,19 +130,19 @@ module _ (schedule : List ℕ) where
 
     pairs_passed : refusal (pair_conditions n (pairs_to k)) ≡ 0
     unfolding conditions_to
-    pairs_passed = append_none (pair_conditions n (pairs_to k)) (hoursTo k) e
+    pairs_passed = append_none (pair_conditions n (pairs_to k)) (hours_to k) e
 
-    hours_passed : noneTo k ≡ false
+    hours_passed : none_to k ≡ false
     unfolding conditions_to
-    hours_passed = elim (test (noneTo k)) [
-      | inl t ↦ absurd (omega (arith, rw t at (sym (hours_alone k) ∙ sym (pairs_rest n (pairs_to k) (hoursTo k) pairs_passed) ∙ e)))
+    hours_passed = elim (test (none_to k)) [
+      | inl t ↦ absurd (omega (arith, rw t at (sym (hours_alone k) ∙ sym (pairs_rest n (pairs_to k) (hours_to k) pairs_passed) ∙ e)))
       | inr t ↦ t
     ]
 
     passed_rest : (cs : List Condition) → refusal (record_conditions schedule ++ cs) ≡ refusal cs
     unfolding conditions_to
     passed_rest cs =
-        ap refusal (append_assoc (pair_conditions n (pairs_to k)) (hoursTo k) cs) ∙ pairs_rest n (pairs_to k) (hoursTo k ++ cs) pairs_passed
+        ap refusal (append_assoc (pair_conditions n (pairs_to k)) (hours_to k) cs) ∙ pairs_rest n (pairs_to k) (hours_to k ++ cs) pairs_passed
         ∙ hours_tested k cs ∙ ap (λ t. cond t 13 (refusal cs)) hours_passed
 
     pub sounds_by : Sounds schedule

@@ -5,13 +5,13 @@ ghost use Rattle.packed.specs.Edges.{with_edge};
 ghost use Rattle.packed.specs.Pairs.{max_nodes};
 ghost use Rattle.packed.specs.Inside.Room.{Room};
 ghost use Rattle.state.specs.Outcome.{left};
-ghost use Rattle.state.specs.Lent.{at_entry, at_exit};
 ghost use Rattle.state.specs.Inside.MaxSizes.{max_edge_bytes};
 ghost use Rattle.calls.specs.Snapshot.{written};
 ghost use Rattle.schedule.specs.Schedule.{open_at, schedule_nodes};
 ghost use Rattle.schedule.specs.Sheet.{load_at_call, write_at_call};
 ghost use Rattle.schedule.specs.Inside.Numbers.{linked_no};
 ghost use Rattle.schedule.specs.Inside.Records.{Sound, Valid};
+ghost use Rattle.state.specs.State.{state};
 
 use crate::records::{Opening, count, form_refusal, nodes, opening_at, record_refusal};
 use calls::made::{MAX_SNAPSHOT, write_made};
@@ -82,7 +82,7 @@ pub fn load_at(
     schedule: &[u8],
     minute: u16,
 ) -> u64
-    ensures { left result (at_exit edges figures marks) ≡ load_at_call (at_entry edges figures marks) schedule.now minute }
+    ensures { left result (state edges.new figures.new marks.new) ≡ load_at_call (state edges.old figures.old marks.old) schedule.now minute }
 {
     let form = form_refusal(schedule);
     if form != 0 {

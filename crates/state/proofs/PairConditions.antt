@@ -65,23 +65,23 @@ two_tests true q k x = refl
 two_tests false q k x = refl
 
 module _ {A : Type 0} where
-  abbrev anyIn : (A → Bool) → List A → Bool
-  anyIn f [] = false
-  anyIn f (x ∷ xs) = f x || anyIn f xs
+  abbrev any_in : (A → Bool) → List A → Bool
+  any_in f [] = false
+  any_in f (x ∷ xs) = f x || any_in f xs
 
-  any_cat : (f : A → Bool) (xs ys : List A) → anyIn f (xs ++ ys) ≡ anyIn f xs || anyIn f ys
+  any_cat : (f : A → Bool) (xs ys : List A) → any_in f (xs ++ ys) ≡ any_in f xs || any_in f ys
   any_cat f [] ys = refl
-  any_cat f (x ∷ xs) ys = ap (λ t. f x || t) (any_cat f xs ys) ∙ or_assoc (f x) (anyIn f xs) (anyIn f ys)
+  any_cat f (x ∷ xs) ys = ap (λ t. f x || t) (any_cat f xs ys) ∙ or_assoc (f x) (any_in f xs) (any_in f ys)
     where
       or_assoc : (a b c : Bool) → a || (b || c) ≡ a || b || c
       or_assoc true b c = refl
       or_assoc false b c = refl
 
   table : (c : A → Condition) (k : ℕ) (xs : List A) (cs : List Condition) → ((x : A) → (c x).0 ≡ k)
-      → refusal (map c xs ++ cs) ≡ cond (anyIn (λ x. (c x).1) xs) k (refusal cs)
+      → refusal (map c xs ++ cs) ≡ cond (any_in (λ x. (c x).1) xs) k (refusal cs)
   unfolding refusal
   table c k [] cs h = refl
-  table c k (x ∷ xs) cs h = rw (h x, table c k xs cs h) (two_tests (c x).1 (anyIn (λ x. (c x).1) xs) k (refusal cs))
+  table c k (x ∷ xs) cs h = rw (h x, table c k xs cs h) (two_tests (c x).1 (any_in (λ x. (c x).1) xs) k (refusal cs))
 
 -- ---- 4 and 5 of pairs
 
@@ -108,7 +108,7 @@ tested_passed false false false x e = refl
 
 module _ (n : ℕ) where
   abbrev tested_of : List (ℕ × ℕ) → ℕ → ℕ
-  tested_of ps x = tested (anyIn (λ p. leb n p.0) ps) (anyIn (λ p. leb n p.1) ps) (anyIn (λ p. eqb p.0 p.1) ps) x
+  tested_of ps x = tested (any_in (λ p. leb n p.0) ps) (any_in (λ p. leb n p.1) ps) (any_in (λ p. eqb p.0 p.1) ps) x
 
   pairs_tested : (ps : List (ℕ × ℕ)) (cs : List Condition) → refusal (pair_conditions n ps ++ cs) ≡ tested_of ps (refusal cs)
   unfolding pair_conditions node_number same_nodes tested
@@ -119,8 +119,8 @@ module _ (n : ℕ) where
       let l : List Condition = map same ps ++ cs in
       ap refusal (append_assoc (map a ps ++ map b ps) (map same ps) cs ∙ append_assoc (map a ps) (map b ps) l)
       ∙ table a 4 ps (map b ps ++ l) (λ p. refl)
-      ∙ ap (λ x. cond (anyIn (λ p. (a p).1) ps) 4 x) (table b 4 ps l (λ p. refl)
-      ∙ ap (λ x. cond (anyIn (λ p. (b p).1) ps) 4 x) (table same 5 ps cs (λ p. refl)))
+      ∙ ap (λ x. cond (any_in (λ p. (a p).1) ps) 4 x) (table b 4 ps l (λ p. refl)
+      ∙ ap (λ x. cond (any_in (λ p. (b p).1) ps) 4 x) (table same 5 ps cs (λ p. refl)))
 
   pairs_alone : (ps : List (ℕ × ℕ)) → refusal (pair_conditions n ps) ≡ tested_of ps 0
   unfolding refusal
@@ -143,8 +143,8 @@ module _ (n : ℕ) where
       let b : ℕ × ℕ → Bool = λ p. leb n p.1 in
       let same : ℕ × ℕ → Bool = λ p. eqb p.0 p.1 in
       pairs_tested (ps ++ qs) es
-      ∙ ap₂ (λ x y. tested x y (anyIn same (ps ++ qs)) (refusal es)) (any_cat a ps qs) (any_cat b ps qs)
-      ∙ ap₂ (λ x y. tested (anyIn a ps || anyIn a qs) (anyIn b ps || anyIn b qs) x y) (any_cat same ps qs) e
+      ∙ ap₂ (λ x y. tested x y (any_in same (ps ++ qs)) (refusal es)) (any_cat a ps qs) (any_cat b ps qs)
+      ∙ ap₂ (λ x y. tested (any_in a ps || any_in a qs) (any_in b ps || any_in b qs) x y) (any_cat same ps qs) e
       ∙ sym (ap₂ earlier (pairs_tested ps cs) (pairs_tested qs ds) ∙ tested_earlier _ _ _ _ _ _ (refusal cs) (refusal ds) fc fd)
 
   pub pairs_cat : (ps qs : List (ℕ × ℕ)) → refusal (pair_conditions n (ps ++ qs)) ≡ earlier (refusal (pair_conditions n ps)) (refusal (pair_conditions n qs))

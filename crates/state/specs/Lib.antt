@@ -4,6 +4,5 @@ pub mod Marks
 pub mod State
 pub mod Refusal
 pub mod Outcome
-pub mod Lent
 pub mod Spare
 pub mod Inside

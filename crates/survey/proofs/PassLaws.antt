@@ -85,19 +85,19 @@ module _ (survey : List ℕ) (start p : ℕ) where
       both false = refl
 
 module _ (survey : List ℕ) (threshold : ℕ) where
-  abbrev linkedAfter : ℕ → ℕ → Bool
-  linkedAfter p k = reached_by survey threshold (last_to survey (has_number survey p) k)
+  abbrev linked_after : ℕ → ℕ → Bool
+  linked_after p k = reached_by survey threshold (last_to survey (has_number survey p) k)
 
   pub pass_none : replicate max_edge_bytes 0 ≡ pass_edges survey threshold 0 0
   unfolding pass_edges last_to reached_by
-  pass_none = clear_bytes_of _ max_edge_bytes (λ p. ap (linkedAfter p) (begin p))
+  pass_none = clear_bytes_of _ max_edge_bytes (λ p. ap (linked_after p) (begin p))
     where
       begin : (p : ℕ) → seen survey 0 0 p ≡ 0
       begin p = elim (dec_lt p window) [ yes h ↦ seen_in survey 0 p 0 (omega arith) (omega arith) | no h ↦ seen_past survey 0 p 0 (omega arith) ]
 
   pub pass_next : (start : ℕ) → pass_edges survey threshold start (record_count survey) ≡ pass_edges survey threshold (start + window) 0
   unfolding pass_edges
-  pass_next start = λ j. bytes_of (λ p. linkedAfter p (seen_next survey start p j)) max_edge_bytes
+  pass_next start = λ j. bytes_of (λ p. linked_after p (seen_next survey start p j)) max_edge_bytes
 
   -- once the windows are past the pairs, all is done
   pub pass_all : {n : ℕ} → Valid survey n → (start : ℕ) → pair_count n ≤ start
@@ -114,9 +114,9 @@ module _ (survey : List ℕ) (threshold : ℕ) where
         ]
       ]
 
-      same : (p : ℕ) → linkedAfter p (seen survey start 0 p) ≡ linked_no survey threshold p
+      same : (p : ℕ) → linked_after p (seen survey start 0 p) ≡ linked_no survey threshold p
       same p = elim (dec_lt p start) [
-        | yes l ↦ ap (linkedAfter p) (seen_before survey start p 0 l)
+        | yes l ↦ ap (linked_after p) (seen_before survey start p 0 l)
         | no l ↦
             let none : (k : ℕ) → k ≤ record_count survey → last_to survey (has_number survey p) k ≡ 0 =
             λ k m. last_never survey (has_number survey p) k (λ i g. number_past v p (omega arith) i (omega arith)) in
@@ -210,8 +210,8 @@ module _ (survey : List ℕ) (start i : ℕ) (latest : List ℕ) (held : Numbers
     chosen true x = refl
     chosen false x = refl
 
-    linked_more : (p : ℕ) → cond (takes && eqb (number_of this) p) reaches (linkedAfter survey threshold p (seen survey start i p))
-        ≡ linkedAfter survey threshold p (seen survey start (i + 1) p)
+    linked_more : (p : ℕ) → cond (takes && eqb (number_of this) p) reaches (linked_after survey threshold p (seen survey start i p))
+        ≡ linked_after survey threshold p (seen survey start (i + 1) p)
     linked_more p = rw (add-one i) (elim (dec_lt p start) [
       | yes h ↦ rw (outside p (place_before start p h), seen_before survey start p i h, seen_before survey start p (suc i) h)
       | no h ↦ elim (dec_lt p (start + window)) [
@@ -233,11 +233,11 @@ module _ (survey : List ℕ) (start i : ℕ) (latest : List ℕ) (held : Numbers
       | inr t ↦ rw t (λ j. bytes_of (λ p. still t p j) max_edge_bytes)
     ]
       where
-        more : takes ≡ true → (p : ℕ) → cond (eqb (number_of this) p) reaches (linkedAfter survey threshold p (seen survey start i p))
-            ≡ linkedAfter survey threshold p (seen survey start (i + 1) p)
+        more : takes ≡ true → (p : ℕ) → cond (eqb (number_of this) p) reaches (linked_after survey threshold p (seen survey start i p))
+            ≡ linked_after survey threshold p (seen survey start (i + 1) p)
         more t p = rw t at (linked_more p)
 
-        still : takes ≡ false → (p : ℕ) → linkedAfter survey threshold p (seen survey start i p) ≡ linkedAfter survey threshold p (seen survey start (i + 1) p)
+        still : takes ≡ false → (p : ℕ) → linked_after survey threshold p (seen survey start i p) ≡ linked_after survey threshold p (seen survey start (i + 1) p)
         still t p = rw t at (linked_more p)
 
 -- from what `decide` ensures

@@ -150,6 +150,6 @@ pub survey_changes : SurveyChanges
 survey_changes = record {
   appended = λ survey r threshold a b w l o. sym (linked_same (appended survey r a b w l o) threshold);
   counting = λ survey r a b i w l o. (at_back survey r a b w l o i, counts_forth (appended survey r a b w l o) i);
-  left_out = λ before r after n threshold w l s. λ j. (n - 1) ∷ edges_of (λ a b. linked_same (left_out_of before r after w l s a b) threshold j) n;
+  left_out_of = λ before r after n threshold w l s. λ j. (n - 1) ∷ edges_of (λ a b. linked_same (left_out_of before r after w l s a b) threshold j) n;
   higher = higher;
 }

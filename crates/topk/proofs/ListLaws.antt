@@ -47,40 +47,40 @@ module _ (s : State) (C : List ℕ) where
   n = size s
 
   -- the refusal of a list of k entries, and what an accepted one leaves
-  abbrev pub refusalOf : ℕ → ℕ
-  refusalOf k = refusal (lengths s ++ list_conditions n (graph s) k (length C))
+  abbrev pub refusal_of : ℕ → ℕ
+  refusal_of k = refusal (lengths s ++ list_conditions n (graph s) k (length C))
 
-  abbrev pub acceptedOf : ℕ → List ℕ → Listed ℕ
-  acceptedOf k E = listing 0 (list_of s k).recomputed (ran_of s k) (over (list_of s k).kept E) (replicate (scratch_bytes n) 0 ++ drop (scratch_bytes n) C)
+  abbrev pub accepted_of : ℕ → List ℕ → Listed ℕ
+  accepted_of k E = listing 0 (list_of s k).recomputed (ran_of s k) (over (list_of s k).kept E) (replicate (scratch_bytes n) 0 ++ drop (scratch_bytes n) C)
 
-  pub list_call_refused : (E : List ℕ) (k : ℕ) → wanted E ≡ k → (refusalOf k ≡ 0 → ⊥) → list_call s E C ≡ listing (refusalOf k) 0 s E C
+  pub list_call_refused : (E : List ℕ) (k : ℕ) → wanted E ≡ k → (refusal_of k ≡ 0 → ⊥) → list_call s E C ≡ listing (refusal_of k) 0 s E C
   unfolding list_call
   list_call_refused E k e d =
-      let f : refusalOf (wanted E) ≡ 0 → ⊥ = λ z. d (ap refusalOf (sym e) ∙ z) in
-      rw (ne_eqb (refusalOf (wanted E)) 0 f) (ap (λ (m : ℕ). listing (refusalOf m) 0 s E C) e)
+      let f : refusal_of (wanted E) ≡ 0 → ⊥ = λ z. d (ap refusal_of (sym e) ∙ z) in
+      rw (ne_eqb (refusal_of (wanted E)) 0 f) (ap (λ (m : ℕ). listing (refusal_of m) 0 s E C) e)
 
-  pub call_taken : (E : List ℕ) (k : ℕ) → wanted E ≡ k → refusalOf k ≡ 0 → list_call s E C ≡ acceptedOf k E
+  pub call_taken : (E : List ℕ) (k : ℕ) → wanted E ≡ k → refusal_of k ≡ 0 → list_call s E C ≡ accepted_of k E
   unfolding list_call accepted_list
   call_taken E k e z =
-      let f : refusalOf (wanted E) ≡ 0 = ap refusalOf e ∙ z in
-      rw (eq-eqb (refusalOf (wanted E)) 0 f) (ap (λ (m : ℕ). acceptedOf m E) e)
+      let f : refusal_of (wanted E) ≡ 0 = ap refusal_of e ∙ z in
+      rw (eq-eqb (refusal_of (wanted E)) 0 f) (ap (λ (m : ℕ). accepted_of m E) e)
 
-  pub call_refusal : (E : List ℕ) → (list_call s E C).refusal ≡ refusalOf (wanted E)
+  pub call_refusal : (E : List ℕ) → (list_call s E C).refusal ≡ refusal_of (wanted E)
   unfolding list_call accepted_list
-  call_refusal E = elim (ℕ_discrete (refusalOf (wanted E)) 0) [
-    | yes z ↦ rw (eq-eqb (refusalOf (wanted E)) 0 z) (sym z)
-    | no d ↦ rw (ne_eqb (refusalOf (wanted E)) 0 d)
+  call_refusal E = elim (ℕ_discrete (refusal_of (wanted E)) 0) [
+    | yes z ↦ rw (eq-eqb (refusal_of (wanted E)) 0 z) (sym z)
+    | no d ↦ rw (ne_eqb (refusal_of (wanted E)) 0 d)
   ]
 
-  pub call_passed : (k : ℕ) → refusalOf k ≡ 0 → ListPassed n (graph s) k (length C)
+  pub call_passed : (k : ℕ) → refusal_of k ≡ 0 → ListPassed n (graph s) k (length C)
   call_passed k z = conditions_pass n (graph s) k (length C) (lengths_rest s _ z)
 
   -- the same by the refusal as the code works it out
-  abbrev pub codedRefusal : List ℕ → ℕ
-  codedRefusal E = refusal (state_lengths n (length s.edges) (length s.marks) ++ list_conditions n (graph s) (wanted E) (length C))
+  abbrev pub coded_refusal : List ℕ → ℕ
+  coded_refusal E = refusal (state_lengths n (length s.edges) (length s.marks) ++ list_conditions n (graph s) (wanted E) (length C))
 
-  module _ (E : List ℕ) {r : ℕ} (e : r ≡ codedRefusal E) where
-    is_refusal : r ≡ refusalOf (wanted E)
+  module _ (E : List ℕ) {r : ℕ} (e : r ≡ coded_refusal E) where
+    is_refusal : r ≡ refusal_of (wanted E)
     unfolding lengths
     is_refusal = e
 
@@ -88,7 +88,7 @@ module _ (s : State) (C : List ℕ) where
     list_refused d = ap (λ (m : ℕ). listing m 0 s E C) is_refusal ∙ sym (list_call_refused E (wanted E) refl (λ z. d (is_refusal ∙ z)))
 
     module _ (z : r ≡ 0) where
-      taken : refusalOf (wanted E) ≡ 0
+      taken : refusal_of (wanted E) ≡ 0
       taken = sym is_refusal ∙ z
 
       pub list_fits : (scratch_bytes n ≤ length C) × ListFits n s.edges s.marks E (wanted E)

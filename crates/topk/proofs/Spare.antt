@@ -157,15 +157,15 @@ module _ {s t : State} (h : Alike s t) (entries scratch : List ℕ) where
         scratch = ap (λ n. replicate (scratch_bytes n) 0 ++ drop (scratch_bytes n) scratch) (alike_nodes h);
       }
 
-  abbrev refusalOf : State → ℕ
-  refusalOf u = refusal (lengths u ++ list_conditions (size u) (graph u) k (length scratch))
+  abbrev refusal_of : State → ℕ
+  refusal_of u = refusal (lengths u ++ list_conditions (size u) (graph u) k (length scratch))
 
-  list_same : refusalOf s ≡ refusalOf t
+  list_same : refusal_of s ≡ refusal_of t
   list_same = rest_alike h _ _ (rw (before_agree (size s) (graph s) (graph t) everyone everyone (alike_links h) (λ p l. refl), alike_nodes h))
 
   pub list_alike : AlikeListed ℕ (list_call s entries scratch) (list_call t entries scratch)
   unfolding list_call
-  list_alike = elim (ℕ_discrete (refusalOf s) 0) [
-    | yes z ↦ rw (← list_same, eq-eqb (refusalOf s) 0 z) accepted_alike
-    | no d ↦ rw (← list_same, ne_eqb (refusalOf s) 0 d) (record { refusal = refl; recomputed = refl; after = h; entries = refl; scratch = refl })
+  list_alike = elim (ℕ_discrete (refusal_of s) 0) [
+    | yes z ↦ rw (← list_same, eq-eqb (refusal_of s) 0 z) accepted_alike
+    | no d ↦ rw (← list_same, ne_eqb (refusal_of s) 0 d) (record { refusal = refl; recomputed = refl; after = h; entries = refl; scratch = refl })
   ]

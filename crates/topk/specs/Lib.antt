@@ -2,6 +2,5 @@
 pub mod Entries
 pub mod Steps
 pub mod List
-pub mod ListLent
 pub mod Ranking
 pub mod Inside

@@ -4,9 +4,9 @@ ghost use Rattle.packed.specs.Edges.{edge};
 ghost use Rattle.state.specs.Outcome.{state_lengths};
 ghost use Rattle.state.specs.Refusal.{refusal};
 ghost use Rattle.state.specs.Sizes.{scratch_bytes};
-ghost use Rattle.topk.specs.List.{list_call, list_conditions};
-ghost use Rattle.topk.specs.ListLent.{at_list_entry, at_list_exit};
-ghost use Rattle.topk.specs.Inside.Turns.{fits_list, leaves_list};
+ghost use Rattle.topk.specs.List.{list_call, list_conditions, listing, list_of};
+ghost use Rattle.state.specs.State.{state};
+ghost use Rattle.topk.specs.Inside.Turns.{ListFits, Leaves};
 
 use crate::turns::run;
 use packed::bits::zero;
@@ -54,8 +54,8 @@ fn accepted(
     scratch: &mut [u8],
     k: usize,
 ) -> u64
-    requires { fits_list edges figures marks entries k × (length scratch.old ≡ scratch_bytes (length figures.old)) }
-    ensures { leaves_list edges figures marks entries k result × (scratch.new ≡ replicate (scratch_bytes (length figures.old)) 0) }
+    requires { ListFits (length figures.old) edges.now marks.old entries.old k × (length scratch.old ≡ scratch_bytes (length figures.old)) }
+    ensures { Leaves (list_of (state edges.now figures.old marks.old) k) figures.new marks.new entries.old entries.new result × (scratch.new ≡ replicate (scratch_bytes (length figures.old)) 0) }
 {
     zero(scratch);
     let recomputed = run(edges, figures, marks, scratch, entries, k);
@@ -71,7 +71,7 @@ pub fn list(
     entries: &mut [u64],
     scratch: &mut [u8],
 ) -> Answer
-    ensures { at_list_exit result edges figures marks entries scratch ≡ at_list_entry list_call edges figures marks entries scratch }
+    ensures { listing result.refusal result.recomputed (state edges.now figures.new marks.new) entries.new scratch.new ≡ list_call (state edges.now figures.old marks.old) entries.old scratch.old }
 {
     let n = figures.len();
     let k = entries.len() / 2;

@@ -3,7 +3,7 @@
 ghost use Rattle.std.specs.Prelude.{◌≡◌, ℕ, ◌/◌, ◌<◌, ◌≤◌, get_or, length};
 ghost use Rattle.packed.specs.Pairs.{max_nodes};
 ghost use Rattle.topk.specs.Steps.{better};
-ghost use Rattle.topk.specs.Inside.Next.{best_head, blocks_for, block_size, first_of, head_of, HeadsAre, HeadsBut, Lookable, looking_at, looking_in, Names, next_of};
+ghost use Rattle.topk.specs.Inside.Next.{best_head, blocks_for, block_size, first_of, head_of, HeadsAre, HeadsBut, Lookable, looking_in, Names, next_of};
 
 use crate::rank::ranks_before;
 use packed::bits::get;
@@ -40,7 +40,7 @@ fn first_of(figures: &[u64], a: usize, b: usize) -> usize
 // Of the best so far and node i, the one that ranks first. A node that is taken does not count.
 fn better(figures: &[u64], taken: &[u8], best: usize, i: usize) -> usize
     requires { (i < length figures.now) × (best ≤ length figures.now) × Lookable figures.now taken.now }
-    ensures { Names (length figures.now) (better (looking_at figures taken) (next_of (length figures.now) best) i) result }
+    ensures { Names (length figures.now) (better (looking_in figures.now taken.now) (next_of (length figures.now) best) i) result }
 {
     if get(taken, i) {
         return best;
@@ -51,7 +51,7 @@ fn better(figures: &[u64], taken: &[u8], best: usize, i: usize) -> usize
 // The head of block b.
 fn head_of(figures: &[u64], taken: &[u8], b: usize) -> usize
     requires { (b < blocks_for (length figures.now)) × Lookable figures.now taken.now }
-    ensures { Names (length figures.now) (head_of (looking_at figures taken) b) result }
+    ensures { Names (length figures.now) (head_of (looking_in figures.now taken.now) b) result }
 {
     let n = figures.len();
     let end = least(BLOCK * b + BLOCK, n);
@@ -75,7 +75,7 @@ fn blocks_for(n: usize) -> usize
 // The heads of all blocks.
 pub(crate) fn heads_of(figures: &[u64], taken: &[u8]) -> Heads
     requires { Lookable figures.now taken.now }
-    ensures { HeadsAre (looking_at figures taken) result }
+    ensures { HeadsAre (looking_in figures.now taken.now) result }
 {
     let mut heads = [0u16; BLOCKS];
     for b in 0..blocks_for(figures.len()) {
@@ -87,7 +87,7 @@ pub(crate) fn heads_of(figures: &[u64], taken: &[u8]) -> Heads
 // The heads after node p was taken.
 pub(crate) fn renewed(figures: &[u64], taken: &[u8], heads: Heads, p: usize) -> Heads
     requires { (p < length figures.now) × Lookable figures.now taken.now × HeadsBut (looking_in figures.now taken.now) heads (p / block_size) }
-    ensures { HeadsAre (looking_at figures taken) result }
+    ensures { HeadsAre (looking_in figures.now taken.now) result }
 {
     let mut after = heads;
     let b = p / BLOCK;

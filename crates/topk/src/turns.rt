@@ -1,7 +1,9 @@
 // The list's turns: each takes one node, or finds that the list is done.
 ghost use Rattle.std.specs.Prelude.{◌≡◌, length, replicate};
 ghost use Rattle.state.specs.Sizes.{scratch_bytes};
-ghost use Rattle.topk.specs.Inside.Turns.{fits_list, fits_turn, turned, leaves_list};
+ghost use Rattle.state.specs.State.{state};
+ghost use Rattle.topk.specs.Inside.Turns.{ListFits, TurnFits, Turned, truth_of, progress_of, Leaves};
+ghost use Rattle.topk.specs.List.{list_of};
 
 use crate::entries::{insert, stops_at};
 use crate::next::{Heads, heads_of, next_node, renewed};
@@ -30,8 +32,8 @@ fn one_turn(
     kept: usize,
     recomputed: u64,
 ) -> Turn
-    requires { fits_turn edges figures marks taken entries heads k kept recomputed }
-    ensures { turned edges figures marks taken entries k kept recomputed result }
+    requires { TurnFits figures.old edges.now marks.old taken.old entries.old heads k kept recomputed }
+    ensures { Turned (truth_of edges.now figures.old) k (progress_of figures.old marks.old taken.old entries.old kept recomputed) result figures.new marks.new taken.new entries.old entries.new }
 {
     let p = next_node(figures, heads);
     let done = Turn {
@@ -68,8 +70,8 @@ pub(crate) fn run(
     entries: &mut [u64],
     k: usize,
 ) -> u64
-    requires { fits_list edges figures marks entries k × (taken.old ≡ replicate (scratch_bytes (length figures.old)) 0) }
-    ensures { leaves_list edges figures marks entries k result }
+    requires { ListFits (length figures.old) edges.now marks.old entries.old k × (taken.old ≡ replicate (scratch_bytes (length figures.old)) 0) }
+    ensures { Leaves (list_of (state edges.now figures.old marks.old) k) figures.new marks.new entries.old entries.new result }
 {
     let mut heads = heads_of(figures, taken);
     let mut kept = 0;

@@ -4,7 +4,7 @@ use Rattle.std.specs.Int.Bits.{bit_and, bit_or}
 use Rattle.arith.specs.Digits.{bit_of}
 use Rattle.arith.specs.Lists.{filter, range}
 use Rattle.arith.specs.Sums.{pack_to, tabulate}
-use Rattle.arith.specs.Inside.Fill.{fillTo}
+use Rattle.arith.specs.Inside.Fill.{fill_to}
 use Rattle.packed.specs.Edges.{edge}
 use Rattle.packed.specs.Pairs.{max_nodes}
 
@@ -55,4 +55,4 @@ unfoldable pub row_within : List ℕ → List ℕ → ℕ → List ℕ
 row_within edges set q = cond (in_set set q) (row_of edges q q) (replicate row_words 0)
 
 unfoldable pub rows_within : List ℕ → ℕ → List ℕ → List (List ℕ)
-rows_within edges n set = fillTo (row_within edges set) (replicate max_nodes (replicate row_words 0)) n
+rows_within edges n set = fill_to (row_within edges set) (replicate max_nodes (replicate row_words 0)) n

@@ -2,7 +2,7 @@
 use Rattle.std.specs.Prelude.{cond, true, List, ◌≢◌, ◌≡◌, ℕ, ◌≤◌, ◌<◌, get_or, length, replicate}
 use Rattle.arith.specs.Digits.{bit_of}
 use Rattle.arith.specs.Sums.{pack_to}
-use Rattle.arith.specs.Inside.Fill.{fillTo, padded}
+use Rattle.arith.specs.Inside.Fill.{fill_to, padded}
 use Rattle.packed.specs.Edges.{edge, with_edge}
 use Rattle.packed.specs.Inside.Room.{Room}
 use Rattle.ego.specs.Graph.{degree, neighbours}
@@ -40,7 +40,7 @@ unfoldable pub crossing_of : List ℕ → End → End → List ℕ
 crossing_of edges from to =
     let near = get_or from.words from.at 0 in
     let linked : ℕ → ℕ = λ k. pack_to (λ j. edge edges (get_or from.nodes k 0) (get_or to.nodes j 0)) to.count in
-    fillTo (λ k. cond (bit_of near k) 0 (linked k)) (replicate word_count 0) from.count
+    fill_to (λ k. cond (bit_of near k) 0 (linked k)) (replicate word_count 0) from.count
 
 -- both ends of the edge a, b
 pub record BothEnds (edges : List ℕ) (n a b : ℕ) (e : Ends) : Type 0 where

@@ -3,7 +3,6 @@ use Rattle.std.specs.Prelude.{Bool, cond, true, [], List, ◌≢◌, ◌≡◌, 
 use Rattle.arith.specs.Sums.{bit, tabulate}
 use Rattle.packed.specs.Bits.{bit_at}
 use Rattle.packed.specs.Pairs.{max_nodes}
-use Rattle.state.specs.Lent.{Moments}
 use Rattle.topk.specs.Entries.{entry, ranks_before, stops}
 use Rattle.topk.specs.Steps.{at, best_below, better, Next, nothing, Progress, stored}
 
@@ -30,9 +29,6 @@ looking figures taken = record { figures = figures; marks = []; taken = taken; k
 
 abbrev pub looking_in : List ℕ → List ℕ → Progress
 looking_in figures scratch = looking figures (taken_of (length figures) scratch)
-
-abbrev pub looking_at : Moments → Moments → Progress
-looking_at figures scratch = looking_in figures.entry.now scratch.entry.now
 
 -- what a number names: a node below n, and nothing where it is n
 unfoldable pub next_of : ℕ → ℕ → Next

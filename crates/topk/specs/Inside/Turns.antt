@@ -6,7 +6,6 @@ use Rattle.ego.specs.Limits.{limit}
 use Rattle.ego.specs.Score.{score}
 use Rattle.packed.specs.Edges.{edge}
 use Rattle.packed.specs.Inside.Room.{Room}
-use Rattle.state.specs.Lent.{at_entry, Buffer, Moments}
 use Rattle.state.specs.Marks.{mark_bytes, stale}
 use Rattle.topk.specs.Entries.{entries_of, over}
 use Rattle.topk.specs.Inside.Layout.{Ordered}
@@ -43,14 +42,6 @@ pub record TurnFits (figures edges marks taken entries heads : List ℕ) (k kept
   pub ordered : Ordered (entries_of kept entries)
   pub less : recomputed < length figures
 
--- the same, of what is lent
-abbrev pub fits_list : Buffer → Buffer → Buffer → Buffer → ℕ → Type 0
-fits_list edges figures marks entries k = ListFits (length figures.now) edges.now marks.now entries.now k
-
-abbrev pub fits_turn : Buffer → Buffer → Buffer → Buffer → Buffer → List ℕ → ℕ → ℕ → ℕ → Type 0
-fits_turn edges figures marks taken entries heads k kept recomputed =
-    TurnFits figures.now edges.now marks.now taken.now entries.now heads k kept recomputed
-
 -- ---- one turn
 
 abbrev pub truth_of : List ℕ → List ℕ → ℕ → ℕ
@@ -83,12 +74,6 @@ pub record Turned (truth : ℕ → ℕ) (k : ℕ) (s : Progress) (t : Turn) (fig
   pub stops : t.stopped ≡ stopped k s
   pub holds : Holds (step truth k s) figures marks taken before entries t.heads t.kept t.recomputed
 
-abbrev pub turned : Moments → Moments → Moments → Moments → Moments → ℕ → ℕ → ℕ → Turn → Type 0
-turned edges figures marks taken entries k kept recomputed t =
-    Turned (truth_of edges.entry.now figures.entry.now) k
-    (progress_of figures.entry.now marks.entry.now taken.entry.now entries.entry.now kept recomputed)
-    t figures.exit.now marks.exit.now taken.exit.now entries.entry.now entries.exit.now
-
 -- ---- the whole list
 
 -- what the list s leaves in the buffers that it writes
@@ -97,7 +82,3 @@ pub record Leaves (s : Progress) (figures marks before entries : List ℕ) (reco
   pub marks_are : marks ≡ s.marks
   pub entries_are : entries ≡ over s.kept before
   pub recomputed_is : recomputed ≡ s.recomputed
-
-abbrev pub leaves_list : Moments → Moments → Moments → Moments → ℕ → ℕ → Type 0
-leaves_list edges figures marks entries k recomputed =
-    Leaves (list_of (at_entry edges figures marks) k) figures.exit.now marks.exit.now entries.entry.now entries.exit.now recomputed

@@ -3,8 +3,7 @@ use mathlib.Core.Path.{ap, sym, ◌∙◌}
 use borrow.Author.Rules.{rules}
 use lib.ListN.{replicate}
 use Rattle.calls.proofs.OutcomeLaws.{accepted_is, cleared_is, refused_is}
-use Rattle.state.specs.Lent.{lent}
-use Rattle.state.specs.State.{State}
+use Rattle.state.specs.State.{State, state}
 use Rattle.state.proofs.RefusalLaws.{fitted_by}
 use Rattle.calls.specs.Clear.{clear_call}
 use Rattle.state.specs.Outcome.{lengths}
@@ -17,7 +16,7 @@ abbrev start : tie.After-state-refusal → tie.Start
 start c = c.before.before.before.before
 
 abbrev given : tie.After-state-refusal → State
-given c = lent (start c).args.edges (start c).args.figures (start c).args.marks
+given c = state (start c).args.edges.now (start c).args.figures.now (start c).args.marks.now
 
 abbrev edges : tie.After-set-zero → tie.After-zero
 edges c = c.before.before.before.before

@@ -4,8 +4,7 @@ use mathlib.Core.Path.{ap, refl, sym, ◌∙◌, ◌≡◌}
 use native.Mathlib.Omega.{arith}
 use lib.ListN.{length}
 use Rattle.packed.specs.Edges.{edge}
-use Rattle.state.specs.Lent.{lent}
-use Rattle.state.specs.State.{State}
+use Rattle.state.specs.State.{State, state}
 use Rattle.calls.proofs.OutcomeLaws.{call_accepted, call_refused, lengths_refused, loaded_is}
 use Rattle.state.proofs.RefusalLaws.{Fitted, fitted_by}
 use Rattle.calls.proofs.SnapshotLaws.{copied_bounds, Fits, fits_by, form_refused, load_crowded, load_passed, part_is, part_length}
@@ -19,7 +18,7 @@ abbrev entry : tie.After-state-refusal → tie.Start
 entry c = c.before.before.before.before.before
 
 abbrev given : tie.After-state-refusal → State
-given c = lent (entry c).args.edges (entry c).args.figures (entry c).args.marks
+given c = state (entry c).args.edges.now (entry c).args.figures.now (entry c).args.marks.now
 
 abbrev start : tie.Else2 → tie.Start
 start c = entry c.before.before.before

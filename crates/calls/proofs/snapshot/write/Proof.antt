@@ -6,9 +6,8 @@ use native.Mathlib.Omega.{arith}
 use borrow.Author.Rules.{rules}
 use borrow.Rule.Slice.PartMut.{same_len_mid}
 use lib.ListN.{length, length-set, set}
-use Rattle.state.specs.Lent.{lent}
 use Rattle.state.specs.Sizes.{snapshot_bytes}
-use Rattle.state.specs.State.{size, State}
+use Rattle.state.specs.State.{size, State, state}
 use Rattle.state.proofs.RefusalLaws.{Fitted, fitted_by, sized_room}
 use Rattle.calls.proofs.SnapshotLaws.{bytes_small, part_length, sheet_is, write_accepted, write_buffer, write_crowded, write_lengths}
 use Rattle.calls.proofs.snapshot.write.Statement.{statement}
@@ -20,7 +19,7 @@ abbrev start : tie.After-state-refusal → tie.Start
 start c = c.before.before.before.before.before
 
 abbrev given : tie.After-state-refusal → State
-given c = lent (start c).args.edges (start c).args.figures (start c).args.marks
+given c = state (start c).args.edges.now (start c).args.figures.now (start c).args.marks.now
 
 abbrev sized : tie.Else2 → tie.Else1
 sized c = c.before.before

@@ -6,12 +6,12 @@ use borrow.Author.Rules.{rules}
 use lib.ListN.{get_or, length}
 use Rattle.packed.specs.Pairs.{max_nodes}
 use Rattle.edits.specs.Inside.Touched.{max_touched}
-use Rattle.capi.proofs.FigureLaws.{length_renewed, renew_end, renew_more, renew_none, renewedTo}
+use Rattle.capi.proofs.FigureLaws.{length_renewed, renew_end, renew_more, renew_none, renewed_to}
 use Rattle.capi.proofs.figures.renew_bytes.Statement.{statement}
 use Rattle.capi.proofs.figures.renew_bytes.Tie as tie
 
 abbrev invariant-loop : tie.invariant-loop
-invariant-loop bytes₀ by nodes bounds i₀ i-end bytes i = (i ≤ i-end) × (bytes ≡ renewedTo bytes₀ nodes bounds by.taken i)
+invariant-loop bytes₀ by nodes bounds i₀ i-end bytes i = (i ≤ i-end) × (bytes ≡ renewed_to bytes₀ nodes bounds by.taken i)
 
 abbrev decreases-loop : tie.decreases-loop
 decreases-loop bytes₀ by nodes bounds i₀ i-end bytes i = i-end - i

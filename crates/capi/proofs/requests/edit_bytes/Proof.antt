@@ -1,8 +1,7 @@
 -- `capi::requests::edit_bytes` meets its contract. Assumes nothing.
 use borrow.Author.Rules.{rules}
 use lib.ListN.{length}
-use Rattle.state.specs.Lent.{lent}
-use Rattle.state.specs.State.{State}
+use Rattle.state.specs.State.{State, state}
 use Rattle.capi.proofs.CallLaws.{edit_ended, lent_fits, LengthsFit, renew_fits}
 use Rattle.capi.proofs.requests.edit_bytes.Statement.{statement}
 use Rattle.capi.proofs.requests.edit_bytes.Tie as tie
@@ -18,7 +17,7 @@ abbrev start : tie.After-slice-known2 → tie.Start
 start c = c.before.before
 
 abbrev given : tie.Start → State
-given s = lent s.args.links s.args.figures s.args.marks
+given s = state s.args.links.now s.args.figures.now s.args.marks.now
 
 fits : (s : tie.Start) → LengthsFit s.args.n (length s.args.links.now) (length s.args.figures.now) (length s.args.marks.now)
 fits s = lent_fits _ _ _ _ s.requires

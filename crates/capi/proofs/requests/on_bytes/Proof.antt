@@ -1,9 +1,8 @@
 -- `capi::requests::on_bytes` meets its contract. Assumes nothing.
 use mathlib.Core.Path.{sym, ◌∙◌}
 use borrow.Author.Rules.{rules}
-use Rattle.state.specs.Lent.{lent}
 use Rattle.state.specs.Outcome.{Outcome}
-use Rattle.state.specs.State.{State}
+use Rattle.state.specs.State.{State, state}
 use Rattle.capi.proofs.CallLaws.{called_passed, called_refused}
 use Rattle.capi.specs.Inside.Requests.{call_of}
 use Rattle.capi.proofs.requests.on_bytes.Statement.{statement}
@@ -17,7 +16,7 @@ abbrev call-of : tie.Start → State → Outcome
 call-of s = call_of s.args.request s.args.a s.args.b
 
 abbrev state-of : tie.Start → State
-state-of s = lent s.args.links s.args.figures s.args.marks
+state-of s = state s.args.links.now s.args.figures.now s.args.marks.now
 
 abbrev passing : tie.After-perform → tie.Else1
 passing c = c.before.before.before.before

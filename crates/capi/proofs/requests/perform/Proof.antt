@@ -1,9 +1,8 @@
 -- `capi::requests::perform` meets its contract. Assumes nothing.
 use borrow.Author.Rules.{rules}
 use Rattle.edits.specs.Edit.{add_call, remove_call}
-use Rattle.state.specs.Lent.{lent}
 use Rattle.state.specs.Outcome.{lengths}
-use Rattle.state.specs.State.{State}
+use Rattle.state.specs.State.{State, state}
 use Rattle.capi.proofs.CallLaws.{asked_is, clear_ended, lent_fits}
 use Rattle.capi.proofs.requests.perform.Statement.{statement}
 use Rattle.capi.proofs.requests.perform.Tie as tie
@@ -34,7 +33,7 @@ abbrev removing : tie.After-edit-bytes2 → tie.After-enum-told3
 removing c = c.before.before.before.before
 
 abbrev given : tie.Start → State
-given s = lent s.args.links s.args.figures s.args.marks
+given s = state s.args.links.now s.args.figures.now s.args.marks.now
 
 returns : tie.Need-returns
 returns c =

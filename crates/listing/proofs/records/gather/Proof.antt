@@ -5,7 +5,6 @@ use native.Mathlib.Omega.{arith}
 use borrow.Author.Rules.{rules}
 use lib.ListN.{length}
 use lib.Seq.{length-take-le}
-use Rattle.state.specs.Lent.{lent}
 use Rattle.state.specs.State.{state}
 use Rattle.listing.proofs.RecordLaws.{gathers}
 use Rattle.listing.proofs.records.gather.Statement.{statement}
@@ -33,7 +32,7 @@ returns c =
     let l = (ran c).list in
     let rows = counted (ran c).before.before in
     let a = (start rows).args in
-    gathers (lent a.edges a.figures a.marks) a.scratch.now a.k a.numbers.now (start rows).pre rows.rows_of_lem.ensures l.result
+    gathers (state a.edges.now a.figures.now a.marks.now) a.scratch.now a.k a.numbers.now (start rows).pre rows.rows_of_lem.ensures l.result
     (state a.edges.now l.last.1.0 l.last.1.1.0) l.last.1.1.1.0 l.last.1.1.1.1.0 l.ensures c.used-of.ensures
 
 pub gather-spec : {M : Type 1} → statement M

@@ -133,8 +133,8 @@ numbersRef = ty_ref erased mut numbersTy
 abbrev readRef : Ty
 readRef = ty_ref erased imm numbersTy
 
-abbrev readWords : Ty
-readWords = slice_ty (ty_ref erased imm word)
+abbrev read_words : Ty
+read_words = slice_ty (ty_ref erased imm word)
 
 -- the declared types as the function's locals have them
 abbrev filledTy : Ty
@@ -164,8 +164,8 @@ abbrev res : Filled → Val
 res t = LL.val Ans.the_type Ans'.the_laws t.answer
 
 -- the numbers' borrow at the list l, from the block p
-abbrev lentNumbers : ℕ → GName → List ℕ → MutBor (List ℕ)
-lentNumbers p γ l = record { ref_ptr = (p, 0); ghost_name = γ; now = l }
+abbrev lent_numbers : ℕ → GName → List ℕ → MutBor (List ℕ)
+lent_numbers p γ l = record { ref_ptr = (p, 0); ghost_name = γ; now = l }
 
 -- all the numbers are enough for `gather`, and can be lent
 enough : (m : ℕ) → m ≡ 2 * rows → 2 * rows ≤ m
@@ -361,7 +361,7 @@ module _ {M : Type 1} {𝓤 : Ura M} (𝓛 : Logic 𝓤) (at_mem : Memory → SP
       En =
           (ansTy, l₀) ∷ (edgesTy, l₁) ∷ (figuresTy, l₂) ∷ (marksTy, l₃) ∷ (entriesTy, l₄) ∷ (scratchTy, l₅) ∷ (numbersTy, l₆) ∷ (filledTy, l₇) ∷ (word, l₈)
           ∷ (word, l₉) ∷ (wordRef, l₁₀) ∷ (words, l₁₁) ∷ (byteRef, l₁₂) ∷ (bytes, l₁₃) ∷ (byteRef, l₁₄) ∷ (bytes, l₁₅) ∷ (numbersRef, l₁₆) ∷ (words, l₁₇)
-          ∷ (word, l₁₈) ∷ (ty_bool, l₁₉) ∷ (entTy, l₂₀) ∷ (readRef, l₂₁) ∷ (readWords, l₂₂) ∷ (word, l₂₃) ∷ (ty_ptr, l₂₄) ∷ []
+          ∷ (word, l₁₈) ∷ (ty_bool, l₁₉) ∷ (entTy, l₂₀) ∷ (readRef, l₂₁) ∷ (read_words, l₂₂) ∷ (word, l₂₃) ∷ (ty_ptr, l₂₄) ∷ []
 
       -- each local dies at the end
       abbrev dying : Env 𝓤 H → List (Item 𝓤)
@@ -372,7 +372,7 @@ module _ {M : Type 1} {𝓤 : Ura M} (𝓛 : Logic 𝓤) (at_mem : Memory → SP
       abbrev At : ℕ → List (Item 𝓤)
       At i =
           ‵ (row R full_share (ys i) b o) ∷ ‵ (row u64 full_share N l₆ 0) ∷ ‵ (fat full_share word l₉ 0 (vint w64 i))
-          ∷ ‵ (froom ty_bool l₁₉ 0) ∷ ‵ (froom readRef l₂₁ 0) ∷ ‵ (froom readWords l₂₂ 0) ∷ ‵ (froom entTy l₂₀ 0) ∷ ‵ (froom word l₂₃ 0)
+          ∷ ‵ (froom ty_bool l₁₉ 0) ∷ ‵ (froom readRef l₂₁ 0) ∷ ‵ (froom read_words l₂₂ 0) ∷ ‵ (froom entTy l₂₀ 0) ∷ ‵ (froom word l₂₃ 0)
           ∷ ‵ (froom ty_ptr l₂₄ 0)
           ∷ ‵ (fat full_share entriesTy l₄ 0 s) ∷ ‵ (fat full_share filledTy l₇ 0 (whole_val t)) ∷ ‵ (fat full_share word l₈ 0 (vint w64 t.used)) ∷ ‵ Shr
           ∷ Tok
@@ -405,21 +405,21 @@ module _ {M : Type 1} {𝓤 : Ura M} (𝓛 : Logic 𝓤) (at_mem : Memory → SP
           stays ! (load ! (from ! (stop !)) (look ! 3 refl)) $ assigns ! (addr ! (from ! (stop !))) (from ! (stop !)) (init ! 4 refl (tt, tt)) $
           assigns ! (agg ! (and_then ! (load ! (from ! (stop !)) (look ! 4 refl)) (and_then ! (lit ! tt) (no_more !)))) (from ! (stop !))
           (init ! 5 refl (tt, (tt, (record { fits = lit< tt }, tt)))) $
-          rewrite ! 5 (λ (m : ℕ). ‵ (fat full_share readWords l₂₂ 0 (slice_val (l₆, 0) m))) (sym len) refl $
+          rewrite ! 5 (λ (m : ℕ). ‵ (fat full_share read_words l₂₂ 0 (slice_val (l₆, 0) m))) (sym len) refl $
           -- the numbers are lent, to be read, for a new lifetime
           lft_new ! tt (λ α. move ! (2 ∷ []) $ feq_i ! ℕ (length N) (length N) refl $ fjoin ! $
-          use1 𝓛 (later (some (λ (γ₅ : GName). ‵ (Read (α ∷ []) (lentNumbers l₆ γ₅ N)) ⊛ ‵
+          use1 𝓛 (later (some (λ (γ₅ : GName). ‵ (Read (α ∷ []) (lent_numbers l₆ γ₅ N)) ⊛ ‵
           (flent (α ∷ []) ((arr_parts (parts-of u64) (length N)).part full_share N l₆ 0)))))
           (lends_shr_slice 𝓛 u64 (named 0) (α ∷ []) full_share N l₆ 0 (room_for (length N) len)) $ await ! tt $ pick ! (λ γ₅. split ! $
           move ! (0 ∷ 2 ∷ []) $
-          use2 𝓛 (raw ((EntryAt 𝓛 at_mem run).pre (to-entry (α ∷ []) (lentNumbers l₆ γ₅ N) i)))
-          (asks-entry (α ∷ []) (lentNumbers l₆ γ₅ N) i i-fits in-numbers) $
+          use2 𝓛 (raw ((EntryAt 𝓛 at_mem run).pre (to-entry (α ∷ []) (lent_numbers l₆ γ₅ N) i)))
+          (asks-entry (α ∷ []) (lent_numbers l₆ γ₅ N) i i-fits in-numbers) $
           -- [what is asked; the lender's part; the entries' row; _9; …]
-          calls_at ! (fm_of 𝓤 H 𝓛.laws 𝓣) (EntryAt 𝓛 at_mem run) known (to-entry (α ∷ []) (lentNumbers l₆ γ₅ N) i)
+          calls_at ! (fm_of 𝓤 H 𝓛.laws 𝓣) (EntryAt 𝓛 at_mem run) known (to-entry (α ∷ []) (lent_numbers l₆ γ₅ N) i)
           (and_then ! (load ! (from ! (stop !)) (look ! 6 refl)) (and_then ! (load ! (from ! (stop !)) (look ! 3 refl)) (no_more !))) (λ u.
           use1 𝓛 (later (some (λ (r : Entry). ((‵ (flft (α ∷ []) full_share) ⊛ ‵ ftrue) ⊛ ‵ (R.own r (u ∷ []))) ⊛ raw
-          (ensured 𝓛 entry-at'.ended (entry-at'.clauses 𝓛 at_mem run) (α ∷ [], tt) ((lentNumbers l₆ γ₅ N), (i, tt)) tt r)))) (id⊢ 𝓤 _) $ await ! tt $
-          pick ! (λ r. split ! $ move ! (1 ∷ []) $ use1 𝓛 (raw (fact 𝓤 (r ≡ entry_in N i))) (entry_read (α ∷ []) (lentNumbers l₆ γ₅ N) i r) $
+          (ensured 𝓛 entry-at'.ended (entry-at'.clauses 𝓛 at_mem run) (α ∷ [], tt) ((lent_numbers l₆ γ₅ N), (i, tt)) tt r)))) (id⊢ 𝓤 _) $ await ! tt $
+          pick ! (λ r. split ! $ move ! (1 ∷ []) $ use1 𝓛 (raw (fact 𝓤 (r ≡ entry_in N i))) (entry_read (α ∷ []) (lent_numbers l₆ γ₅ N) i r) $
           heard ! (r ≡ entry_in N i) (λ e. split ! $
           -- [the token; the entry; the lender's part; the entries' row; …]
           move ! (1 ∷ []) $
@@ -556,7 +556,7 @@ module _ {M : Type 1} {𝓤 : Ura M} (𝓛 : Logic 𝓤) (at_mem : Memory → SP
       (init ! 13 refl (tt, record { fits = g.0 })) $
       -- the numbers are lent for a new lifetime
       lft_new ! tt (λ α. move ! (1 ∷ []) $
-      use1 𝓛 (later (some (λ (γ₅ : GName). ‵ ((MutSlice (named 4) (α ∷ []) u64).own_val (lentNumbers l₆ γ₅ zs) (v (lentNumbers l₆ γ₅ zs) ∷ [])) ⊛ ‵
+      use1 𝓛 (later (some (λ (γ₅ : GName). ‵ ((MutSlice (named 4) (α ∷ []) u64).own_val (lent_numbers l₆ γ₅ zs) (v (lent_numbers l₆ γ₅ zs) ∷ [])) ⊛ ‵
       (flent (α ∷ []) (Held u64 (length zs) l₆ 0 γ₅))))) (lends_slice 𝓛 u64 (named 4) (α ∷ []) zs l₆ 0 (room_for (length zs) full)) $ await ! tt $
       pick ! (λ γ₅. split ! $ move ! (53 ∷ []) $ fsplit ! $ move ! (1 ∷ []) $ fsplit ! $ move ! (1 ∷ []) $ fsplit ! $ move ! (1 ∷ []) $ fsplit ! $
       move ! (1 ∷ []) $ fsplit ! $
@@ -567,17 +567,17 @@ module _ {M : Type 1} {𝓤 : Ura M} (𝓛 : Logic 𝓤) (at_mem : Memory → SP
       move ! (4 ∷ []) $ fsplit ! $ drop ! $ fsplit ! $ move ! (0 ∷ 1 ∷ 3 ∷ []) $ opens_slice ! tt R xs b o $
       -- [the entries' row; the open borrow; obs; auth; the five tokens; …]
       move ! (9 ∷ 8 ∷ 7 ∷ 5 ∷ 10 ∷ 4 ∷ []) $ fjoin ! $ fjoin ! $ fjoin ! $ fjoin ! $
-      use2 𝓛 (raw ((Gather 𝓛 at_mem run).pre (to-gather (α ∷ []) (lentNumbers l₆ γ₅ zs))) ⊛ ‵ Shr)
-      (apart (α ∷ []) (lentNumbers l₆ γ₅ zs) g.0 (enough (length zs) full)) $ split ! $
+      use2 𝓛 (raw ((Gather 𝓛 at_mem run).pre (to-gather (α ∷ []) (lent_numbers l₆ γ₅ zs))) ⊛ ‵ Shr)
+      (apart (α ∷ []) (lent_numbers l₆ γ₅ zs) g.0 (enough (length zs) full)) $ split ! $
       -- [what is asked; the edges; the entries' row; the open borrow; obs; auth; …; the lender's part; _24; …]
-      calls_at ! (fm_of 𝓤 H 𝓛.laws 𝓣) (Gather 𝓛 at_mem run) known-gather (to-gather (α ∷ []) (lentNumbers l₆ γ₅ zs))
+      calls_at ! (fm_of 𝓤 H 𝓛.laws 𝓣) (Gather 𝓛 at_mem run) known-gather (to-gather (α ∷ []) (lent_numbers l₆ γ₅ zs))
       (and_then ! (load ! (from ! (stop !)) (look ! 53 refl)) (and_then ! (load ! (from ! (stop !)) (look ! 34 refl))
       (and_then ! (load ! (from ! (stop !)) (look ! 30 refl)) (and_then ! (load ! (from ! (stop !)) (look ! 26 refl))
       (and_then ! (load ! (from ! (stop !)) (look ! 22 refl)) (and_then ! (load ! (from ! (stop !)) (look ! 20 refl)) (no_more !))))))) (λ u.
       use1 𝓛 (later (some (λ (t : Filled). (Tok₅ (α ∷ []) ⊛ ‵ ((Fil.the_row).own_val t (u ∷ []))) ⊛ raw (ensured 𝓛 gather'.ended
-      (gather'.clauses 𝓛 at_mem run) (passedLives (α ∷ [])) (given' (lentNumbers l₆ γ₅ zs)) tt t)))) (id⊢ 𝓤 _) $ await ! tt $ pick ! (λ t. split ! $
+      (gather'.clauses 𝓛 at_mem run) (passedLives (α ∷ [])) (given' (lent_numbers l₆ γ₅ zs)) tt t)))) (id⊢ 𝓤 _) $ await ! tt $ pick ! (λ t. split ! $
       move ! (1 ∷ []) $
-      use1 𝓛 (some (λ (ws : Last). ‵ (lasts gather'.ended (passedLives (α ∷ [])) (given' (lentNumbers l₆ γ₅ zs)) ws) ⊛ raw (fact 𝓤 (Says t ws)))) (id⊢ 𝓤 _) $
+      use1 𝓛 (some (λ (ws : Last). ‵ (lasts gather'.ended (passedLives (α ∷ [])) (given' (lent_numbers l₆ γ₅ zs)) ws) ⊛ raw (fact 𝓤 (Says t ws)))) (id⊢ 𝓤 _) $
       pick ! (λ ws. split ! $ move ! (1 ∷ []) $ heard ! (Says t ws) (λ G. fsplit ! $ drop ! $
       -- the last figures, marks, scratch and numbers, each with its length
       fsplit ! $ fsplit ! $ move ! (1 ∷ []) $ feq_l ! (λ e₁. move ! (1 ∷ []) $ fsplit ! $ fsplit ! $ move ! (1 ∷ []) $ feq_l ! (λ e₂. move ! (1 ∷ []) $

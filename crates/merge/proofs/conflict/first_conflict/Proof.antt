@@ -12,9 +12,8 @@ use Rattle.state.specs.Refusal.{refusal}
 use Rattle.merge.proofs.ConflictCall.{brought_refused, call_answered, edges_refused, lengths_none}
 use Rattle.merge.proofs.ConflictLaws.{answers_none, answers_pair}
 use Rattle.merge.proofs.LengthLaws.{brought_long, long_rooms}
-use Rattle.merge.specs.BroughtLent.{brought_now}
 use Rattle.merge.specs.Conflict.{conflict_conditions}
-use Rattle.merge.specs.Pinned.{Brought, brought_lengths}
+use Rattle.merge.specs.Pinned.{Brought, brought_lengths, brought}
 use Rattle.merge.specs.Inside.Bitwise.{conflict_bit}
 use Rattle.merge.proofs.conflict.first_conflict.Statement.{statement}
 use Rattle.merge.proofs.conflict.first_conflict.Tie as tie
@@ -31,7 +30,7 @@ abbrev all : tie.After-conflict-bit → tie.Else2
 all c = c.before.before
 
 abbrev given : tie.Else1 → Brought
-given c = let s = (start c).args in brought_now s.pins s.theirs s.their-pins s.base
+given c = let s = (start c).args in brought s.pins.now s.theirs.now s.their-pins.now s.base.now
 
 -- ---- what is known there
 

@@ -9,8 +9,7 @@ use Rattle.state.proofs.RefusalLaws.{append_refused, passed_before, passed_confl
 use Rattle.state.specs.Refusal.{everyone, refusal, too_many}
 use Rattle.merge.proofs.LengthLaws.{brought_long, brought_rest, Long, long_room, long_rooms}
 use Rattle.merge.proofs.PinLaws.{same_12}
-use Rattle.merge.specs.BroughtLent.{brought_now}
-use Rattle.merge.specs.Pinned.{Brought, brought_lengths}
+use Rattle.merge.specs.Pinned.{Brought, brought_lengths, brought}
 use Rattle.merge.proofs.pinned.pinned_refusal.Statement.{statement}
 use Rattle.merge.proofs.pinned.pinned_refusal.Tie as tie
 
@@ -21,7 +20,7 @@ abbrev fit : tie.After-any-among → tie.Else1
 fit c = c.before.before.before
 
 abbrev given : tie.Start → Brought
-given s = brought_now s.args.pins s.args.theirs s.args.their-pins s.args.base
+given s = brought s.args.pins.now s.args.theirs.now s.args.their-pins.now s.args.base.now
 
 -- what is brought is of the edges' length
 long : (c : tie.Else1) → Long (start c.before).args.n (given (start c.before))

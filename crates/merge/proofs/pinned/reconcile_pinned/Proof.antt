@@ -4,12 +4,10 @@ use borrow.Author.Rules.{rules}
 use lib.ListN.{length}
 use Rattle.calls.proofs.OutcomeLaws.{call_accepted, call_refused, lengths_refused}
 use Rattle.state.proofs.RefusalLaws.{Fitted, fitted_by, sized_room}
-use Rattle.state.specs.Lent.{lent}
 use Rattle.state.specs.Refusal.{refusal}
-use Rattle.state.specs.State.{graph, size, State}
+use Rattle.state.specs.State.{graph, size, State, state}
 use Rattle.merge.proofs.PinLaws.{accepted_none, accepts_too, same_after}
-use Rattle.merge.specs.BroughtLent.{brought_now}
-use Rattle.merge.specs.Pinned.{Brought, pinned_call, pinned_conditions}
+use Rattle.merge.specs.Pinned.{Brought, pinned_call, pinned_conditions, brought}
 use Rattle.merge.proofs.pinned.reconcile_pinned.Statement.{statement}
 use Rattle.merge.proofs.pinned.reconcile_pinned.Tie as tie
 
@@ -27,15 +25,15 @@ abbrev taken : tie.After-slice-known6 → tie.After-take-theirs
 taken c = c.before.before.before.before.before.before
 
 abbrev given : tie.Start → State
-given s = lent s.args.edges s.args.figures s.args.marks
+given s = state s.args.edges.now s.args.figures.now s.args.marks.now
 
-abbrev lentToo : tie.Start → Brought
-lentToo s = brought_now s.args.pins s.args.theirs s.args.their-pins s.args.base
+abbrev lent_too : tie.Start → Brought
+lent_too s = brought s.args.pins.now s.args.theirs.now s.args.their-pins.now s.args.base.now
 
 fits : (c : tie.Else1) → let s = given (entry c.before) in Fitted (size s) (length s.edges) (length s.marks)
 fits c = fitted_by c.before.state-refusal.ensures c.if1.false
 
-asked : (c : tie.Else2) → let s = entry (passed c.before).before in refusal (pinned_conditions (size (given s)) (graph (given s)) (lentToo s)) ≡ 0
+asked : (c : tie.Else2) → let s = entry (passed c.before).before in refusal (pinned_conditions (size (given s)) (graph (given s)) (lent_too s)) ≡ 0
 asked c = sym c.before.pinned-refusal.ensures ∙ c.if2.false
 
 returns : tie.Need-returns
@@ -56,7 +54,7 @@ take-theirs-requires c κs =
     let at = accepted c in
     let d = passed at.before in
     let s = entry d.before in
-    accepts_too (given s) (lentToo s) (asked at) (fits d)
+    accepts_too (given s) (lent_too s) (asked at) (fits d)
 
 returns-3 : tie.Need-returns-3
 unfolding pinned_call
@@ -66,7 +64,7 @@ returns-3 c =
     let d = passed at.before in
     let s = entry d.before in
     call_accepted (given s) _ _ (fits d) at.before.pinned-refusal.ensures at.if2.left
-    (take.take-theirs.ensures ∙ sym (same_after (given s) (lentToo s) (accepted_none (given s) (lentToo s) (asked at))))
+    (take.take-theirs.ensures ∙ sym (same_after (given s) (lent_too s) (accepted_none (given s) (lent_too s) (asked at))))
 
 pub reconcile-pinned-spec : {M : Type 1} → statement M
 reconcile-pinned-spec =

@@ -5,8 +5,7 @@ use lib.ListN.{length}
 use Rattle.calls.proofs.AcceptLaws.{lengths_pass, outcome_refusal}
 use Rattle.calls.proofs.OutcomeLaws.{call_accepted, call_refused, lengths_refused}
 use Rattle.state.proofs.RefusalLaws.{Fitted, fitted_by, sized_room}
-use Rattle.state.specs.Lent.{lent}
-use Rattle.state.specs.State.{size, State}
+use Rattle.state.specs.State.{size, State, state}
 use Rattle.merge.specs.Reconcile.{reconcile_call}
 use Rattle.merge.proofs.reconcile.reconcile.Statement.{statement}
 use Rattle.merge.proofs.reconcile.reconcile.Tie as tie
@@ -25,7 +24,7 @@ abbrev taken : tie.After-slice-known6 → tie.After-take-theirs
 taken c = c.before.before.before.before.before.before
 
 abbrev given : tie.Start → State
-given s = lent s.args.edges s.args.figures s.args.marks
+given s = state s.args.edges.now s.args.figures.now s.args.marks.now
 
 fits : (c : tie.Else1) → let s = given (entry c.before) in Fitted (size s) (length s.edges) (length s.marks)
 fits c = fitted_by c.before.state-refusal.ensures c.if1.false

@@ -2,8 +2,7 @@
 use mathlib.Core.Bool.{false, true}
 use mathlib.Core.Path.{refl, ◌∙◌}
 use borrow.Author.Rules.{rules}
-use Rattle.state.specs.Lent.{lent}
-use Rattle.state.specs.State.{State}
+use Rattle.state.specs.State.{State, state}
 use Rattle.merge.proofs.MergeLaws.{steps_reconcile}
 use Rattle.merge.proofs.Way.{fits, ready, way_start_stepped}
 use Rattle.merge.proofs.taken.take_theirs.Statement.{statement}
@@ -19,7 +18,7 @@ abbrev added : tie.After-slice-known9 → tie.After-take-all2
 added c = c.before.before.before.before.before.before
 
 abbrev given : tie.Start → State
-given s = lent s.args.edges s.args.figures s.args.marks
+given s = state s.args.edges.now s.args.figures.now s.args.marks.now
 
 take-all-requires : tie.Need-take-all-requires
 take-all-requires c κs = let s = start c in ready (given s) s.args.theirs.now s.args.base.now s.pre false refl

@@ -5,13 +5,13 @@ use native.Mathlib.Omega.{arith}
 use lib.Bits.{bit_and}
 use lib.ListN.{get_or, replicate}
 use Rattle.arith.proofs.Sums.{fill_step, fill_table, fill_to_none}
-use Rattle.arith.specs.Inside.Fill.{fillTo}
+use Rattle.arith.specs.Inside.Fill.{fill_to}
 use Rattle.packed.specs.Inside.Rows.{both_of, row_words}
 use Rattle.packed.proofs.rows.both.Statement.{statement}
 use Rattle.packed.proofs.rows.both.Tie as tie
 
 abbrev invariant-loop : tie.invariant-loop
-invariant-loop x y row₀ k₀ row k = (k ≤ row_words) × (row ≡ fillTo (λ k. bit_and (get_or x k 0) (get_or y k 0)) (replicate row_words 0) k)
+invariant-loop x y row₀ k₀ row k = (k ≤ row_words) × (row ≡ fill_to (λ k. bit_and (get_or x k 0) (get_or y k 0)) (replicate row_words 0) k)
 
 abbrev decreases-loop : tie.decreases-loop
 decreases-loop x y row₀ k₀ row k = row_words - k

@@ -5,15 +5,15 @@ use native.Mathlib.Omega.{arith}
 use borrow.Author.Rules.{rules}
 use lib.ListN.{replicate}
 use Rattle.arith.proofs.Sums.{fill_step, fill_to_none}
-use Rattle.arith.specs.Inside.Fill.{fillTo}
+use Rattle.arith.specs.Inside.Fill.{fill_to}
 use Rattle.packed.proofs.RowLaws.{row_few, row_run, row_within}
-use Rattle.packed.proofs.SetLaws.{row_filled, row_word, rowWord}
+use Rattle.packed.proofs.SetLaws.{row_filled, row_word, word_of_row}
 use Rattle.packed.specs.Bits.{run_of}
 use Rattle.packed.proofs.rows.row_below.Statement.{statement}
 use Rattle.packed.proofs.rows.row_below.Tie as tie
 
 abbrev invariant-loop : tie.invariant-loop
-invariant-loop edges p start row₀ k₀ row k = (k ≤ 8) × (row ≡ fillTo (rowWord edges p p) (replicate 8 0) k)
+invariant-loop edges p start row₀ k₀ row k = (k ≤ 8) × (row ≡ fill_to (word_of_row edges p p) (replicate 8 0) k)
 
 abbrev decreases-loop : tie.decreases-loop
 decreases-loop edges p start row₀ k₀ row k = 8 - k
@@ -26,8 +26,8 @@ word : (c : tie.After-run-of invariant-loop decreases-loop) →
     let l = c.before.before.before in
     let s = (start l).args in
     let k = l.loop.k in
-    (c.run_of.result * 2 ^ (32 * k + 32 - c.before.least.result) % 2 ^ 64 ≡ rowWord s.edges.now s.p s.p k)
-    × (rowWord s.edges.now s.p s.p k < 2 ^ 32)
+    (c.run_of.result * 2 ^ (32 * k + 32 - c.before.least.result) % 2 ^ 64 ≡ word_of_row s.edges.now s.p s.p k)
+    × (word_of_row s.edges.now s.p s.p k < 2 ^ 32)
 word c =
     let l = c.before.before.before in
     let s = (start l).args in

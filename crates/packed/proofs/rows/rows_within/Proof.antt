@@ -4,7 +4,7 @@ use Prim.Native.Nat.{◌-◌, ◌≤◌}
 use native.Mathlib.Omega.{arith}
 use lib.ListN.{replicate}
 use Rattle.arith.proofs.Sums.{fill_end, fill_step, fill_to_none}
-use Rattle.arith.specs.Inside.Fill.{fillTo}
+use Rattle.arith.specs.Inside.Fill.{fill_to}
 use Rattle.packed.proofs.PairLaws.{room_mono}
 use Rattle.packed.specs.Pairs.{max_nodes}
 use Rattle.packed.specs.Inside.Rows.{rows_within, row_within, row_words}
@@ -12,7 +12,7 @@ use Rattle.packed.proofs.rows.rows_within.Statement.{statement}
 use Rattle.packed.proofs.rows.rows_within.Tie as tie
 
 abbrev invariant-loop : tie.invariant-loop
-invariant-loop edges n set rows₀ q₀ rows q = (q ≤ n) × (rows ≡ fillTo (row_within edges set) (replicate max_nodes (replicate row_words 0)) q)
+invariant-loop edges n set rows₀ q₀ rows q = (q ≤ n) × (rows ≡ fill_to (row_within edges set) (replicate max_nodes (replicate row_words 0)) q)
 
 abbrev decreases-loop : tie.decreases-loop
 decreases-loop edges n set rows₀ q₀ rows q = n - q

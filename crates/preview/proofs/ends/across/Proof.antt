@@ -6,7 +6,7 @@ use native.Mathlib.Omega.{arith}
 use lib.ListN.{get_or, replicate}
 use Rattle.arith.proofs.Sums.{fill_end, fill_step, fill_to_none}
 use Rattle.arith.specs.Digits.{bit_of}
-use Rattle.arith.specs.Inside.Fill.{fillTo}
+use Rattle.arith.specs.Inside.Fill.{fill_to}
 use Rattle.arith.specs.Sums.{pack_to}
 use Rattle.ego.proofs.WordLaws.{node_small}
 use Rattle.ego.specs.Inside.Words.{word_count}
@@ -18,7 +18,7 @@ use Rattle.preview.proofs.ends.across.Tie as tie
 
 abbrev invariant-loop : tie.invariant-loop
 invariant-loop edges to nodes others at near crossing₀ k₀ k-end crossing k =
-    (k ≤ k-end) × (crossing ≡ fillTo (λ m. cond (bit_of near m) 0 (pack_to (λ j. edge edges (get_or nodes m 0) (get_or others j 0)) to.count)) (replicate word_count 0) k)
+    (k ≤ k-end) × (crossing ≡ fill_to (λ m. cond (bit_of near m) 0 (pack_to (λ j. edge edges (get_or nodes m 0) (get_or others j 0)) to.count)) (replicate word_count 0) k)
 
 abbrev decreases-loop : tie.decreases-loop
 decreases-loop edges to nodes others at near crossing₀ k₀ k-end crossing k = k-end - k

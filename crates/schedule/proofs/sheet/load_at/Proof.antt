@@ -8,10 +8,9 @@ use lib.ListN.{length, take}
 use lib.Seq.{length-take-le}
 use Rattle.packed.specs.Pairs.{max_nodes}
 use Rattle.state.proofs.RefusalLaws.{fitted_by}
-use Rattle.state.specs.Lent.{lent}
 use Rattle.state.specs.Refusal.{refusal}
 use Rattle.state.specs.Sizes.{snapshot_bytes}
-use Rattle.state.specs.State.{State}
+use Rattle.state.specs.State.{State, state}
 use Rattle.calls.proofs.MadeLaws.{made_long, made_sheet}
 use Rattle.calls.proofs.SnapshotLaws.{bytes_small}
 use Rattle.calls.specs.Snapshot.{load_call}
@@ -41,7 +40,7 @@ abbrev schedule : tie.Else1 → List ℕ
 schedule c = (start c).args.schedule.now
 
 abbrev given : tie.Else1 → State
-given c = let s = (start c).args in lent s.edges s.figures s.marks
+given c = let s = (start c).args in state s.edges.now s.figures.now s.marks.now
 
 -- ---- what is known there
 
@@ -81,7 +80,7 @@ fits c =
 returns : tie.Need-returns
 returns c =
     let s = c.before.before.before.before.before.before.args in
-    load_form (lent s.edges s.figures s.marks) _ _ c.before.form-refusal.ensures c.if1.true
+    load_form (state s.edges.now s.figures.now s.marks.now) _ _ c.before.form-refusal.ensures c.if1.true
 
 returns-2 : tie.Need-returns-2
 returns-2 c =

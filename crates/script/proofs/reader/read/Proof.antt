@@ -162,8 +162,8 @@ module _ {M : Type 1} {𝓤 : Ura M} (𝓛 : Logic 𝓤) (at_mem : Memory → SP
   met : (i : Item) (z : Reader) → Said i z → (made i z ≡ read_at s.now n) × (reading_of i z.at ≡ reading_at s.now n)
   met i z e = (ap (λ (x : Item). made x z) e.0 ∙ ap (λ (x : Reader). made (yields h) x) e.1, e.2)
 
-  isLow : (i : Item) (w : Val) → Is I.the_row i (w ∷ []) → Is I.the_row i (low i ∷ [])
-  isLow i w is = subst (Is I.the_row i) (EL.tells I.the_type I'.the_laws i _ is) is
+  is_low : (i : Item) (w : Val) → Is I.the_row i (w ∷ []) → Is I.the_row i (low i ∷ [])
+  is_low i w is = subst (Is I.the_row i) (EL.tells I.the_type I'.the_laws i _ is) is
 
   -- what the number passed owns
   abbrev Num : Fml
@@ -234,7 +234,7 @@ module _ {M : Type 1} {𝓤 : Ura M} (𝓛 : Logic 𝓤) (at_mem : Memory → SP
         assigns ! (agg ! (and_then ! (load ! (from ! (stop !)) (look ! 13 refl)) (and_then ! (load ! (from ! (stop !)) (look ! 9 refl)) (no_more !))))
         (from ! (stop !))
         (init ! 20 refl ((LL.lawful S.the_type S'.the_laws 𝓛).typed (made i zs.0) _
-        (LL.owes S.the_type S'.the_laws (made i zs.0) (isLow i w is, ((refl, (LL.owed D L zs.0 _ was).1.0.1), tt)))).0) $
+        (LL.owes S.the_type S'.the_laws (made i zs.0) (is_low i w is, ((refl, (LL.owed D L zs.0 _ was).1.0.1), tt)))).0) $
         returns ! (look ! 20 refl) $ forget ! 0 refl $ forget ! 9 refl $ forget ! 11 refl $ forget ! 13 refl $ forget ! 16 refl $ forget ! 18 refl $
         forget ! 20 refl $
         move ! (20 ∷ 21 ∷ []) $ free1 ! $ move ! (18 ∷ 19 ∷ []) $ free1 ! $ move ! (16 ∷ 17 ∷ []) $ free1 ! $ move ! (0 ∷ 15 ∷ []) $ free1 ! $

@@ -5,13 +5,13 @@ use native.Mathlib.Omega.{arith}
 use borrow.Author.Rules.{rules}
 use lib.ListN.{length}
 use lib.Seq.{length-take-le}
-use Rattle.state.specs.Lent.{lent}
 use Rattle.state.specs.Sizes.{scratch_bytes}
 use Rattle.topk.proofs.ListLaws.{list_accepted, list_fits, list_refused}
-use Rattle.topk.specs.Inside.Turns.{fits_list}
 use Rattle.topk.specs.List.{wanted}
 use Rattle.topk.proofs.list.list.Statement.{statement}
 use Rattle.topk.proofs.list.list.Tie as tie
+use Rattle.state.specs.State.{state}
+use Rattle.topk.specs.Inside.Turns.{ListFits}
 
 -- ---- the places: the call, a list that is not refused, and the accepted list
 abbrev start : tie.After-list-refusal → tie.Start
@@ -29,13 +29,13 @@ ran c = c.before.before.before.before.before.before.before
 returns : tie.Need-returns
 returns c =
     let a = (start c.before).args in
-    list_refused (lent a.edges a.figures a.marks) a.scratch.now a.entries.now c.before.list-refusal.ensures c.if1.true
+    list_refused (state a.edges.now a.figures.now a.marks.now) a.scratch.now a.entries.now c.before.list-refusal.ensures c.if1.true
 
 fits : (c : tie.Else1) → let a = (start c.before).args in
-    (scratch_bytes (length a.figures.now) ≤ length a.scratch.now) × fits_list a.edges a.figures a.marks a.entries (wanted a.entries.now)
+    (scratch_bytes (length a.figures.now) ≤ length a.scratch.now) × ListFits (length a.figures.now) a.edges.now a.marks.now a.entries.now (wanted a.entries.now)
 fits c =
     let a = (start c.before).args in
-    list_fits (lent a.edges a.figures a.marks) a.scratch.now a.entries.now c.before.list-refusal.ensures c.if1.false
+    list_fits (state a.edges.now a.figures.now a.marks.now) a.scratch.now a.entries.now c.before.list-refusal.ensures c.if1.false
 
 few : tie.Need-scratch-bytes-requires
 few c κs = (fits c).1.workable.scorable.room.few
@@ -56,7 +56,7 @@ returns-2 c =
     let b = sized l.before in
     let p = passed b in
     let a = (start p.before).args in
-    list_accepted (lent a.edges a.figures a.marks) a.scratch.now a.entries.now p.before.list-refusal.ensures p.if1.left
+    list_accepted (state a.edges.now a.figures.now a.marks.now) a.scratch.now a.entries.now p.before.list-refusal.ensures p.if1.left
     b.scratch-bytes.ensures l.accepted.ensures.0 l.accepted.ensures.1
 
 pub list-spec : {M : Type 1} → statement M

@@ -4,10 +4,9 @@ use Prim.Native.Nat.{◌-◌, ℕ, ◌≤◌}
 use native.Mathlib.Omega.{arith}
 use lib.ListN.{length, length-replicate}
 use Rattle.ego.specs.Score.{score}
-use Rattle.state.specs.Lent.{lent}
 use Rattle.state.specs.Sizes.{scratch_bytes}
 use Rattle.state.specs.State.{graph, size, State, state}
-use Rattle.topk.proofs.RunLaws.{afterSteps, run_ends, run_goes, run_ordered, run_starts, run_stops}
+use Rattle.topk.proofs.RunLaws.{after_steps, run_ends, run_goes, run_ordered, run_starts, run_stops}
 use Rattle.topk.proofs.TurnLaws.{counts}
 use Rattle.topk.specs.Inside.Turns.{Holds, Scorable}
 use Rattle.topk.proofs.turns.run.Statement.{statement}
@@ -20,7 +19,7 @@ invariant-loop edges figures₀ marks₀ taken₀ entries₀ k heads₀ kept₀ 
     × (length marks ≡ length marks₀)
     × (length taken ≡ length taken₀)
     × (length entries ≡ length entries₀)
-    × Holds (afterSteps (state edges figures₀ marks₀) k i) figures marks taken entries₀ entries heads kept recomputed
+    × Holds (after_steps (state edges figures₀ marks₀) k i) figures marks taken entries₀ entries heads kept recomputed
 
 abbrev decreases-loop : tie.decreases-loop
 decreases-loop edges figures₀ marks₀ taken₀ entries₀ k heads₀ kept₀ recomputed₀ i₀ figures marks taken entries heads kept recomputed i = length figures₀ - i
@@ -39,7 +38,7 @@ abbrev turned : tie.After-heads invariant-loop decreases-loop → tie.After-one-
 turned c = c.before.before.before.before.before.before.before.before.before
 
 abbrev given : tie.Start invariant-loop decreases-loop → State
-given s = lent s.args.edges s.args.figures s.args.marks
+given s = state s.args.edges.now s.args.figures.now s.args.marks.now
 
 -- the scratch has the bytes that the nodes' bits take
 long : (s : tie.Start invariant-loop decreases-loop) → length s.args.taken.now ≡ scratch_bytes (size (given s))
