@@ -32,9 +32,9 @@ module _ (schedule : List ℕ) (t : ℕ) where
   differs_no m p = differ (linked_no schedule m p) (linked_no schedule t p)
 
   module _ (start end m : ℕ) where
-    differs_at_lem : (p : ℕ) → start ≤ p → p < end → differs_no m p ≡ true → differs_in schedule start end t m ≡ true
+    differs_at : (p : ℕ) → start ≤ p → p < end → differs_no m p ≡ true → differs_in schedule start end t m ≡ true
     unfolding differs_in
-    differs_at_lem p l h d = any_to_here _ end p h (rw (le-leb start p l) d)
+    differs_at p l h d = any_to_here _ end p h (rw (le-leb start p l) d)
 
     differs_never : ((p : ℕ) → start ≤ p → p < end → differs_no m p ≡ false) → differs_in schedule start end t m ≡ false
     unfolding differs_in
@@ -76,11 +76,11 @@ first_join schedule start t {x} {y} f g = record {
   some = λ l. elim (dec_lt y x) [
     | yes s ↦
         let (p, a, b, d) = differs_some schedule t start (start + window) y (g.some s) in
-        differs_at_lem schedule t 0 (start + window) y p zero-le b d
+        differs_at schedule t 0 (start + window) y p zero-le b d
     | no s ↦
         let e : y ≡ x = omega (arith, g.stop) in
         let (p, a, b, d) = differs_some schedule t 0 start y (ap (differs_in schedule 0 start t) e ∙ f.some (omega arith)) in
-        differs_at_lem schedule t 0 (start + window) y p zero-le (omega arith) d
+        differs_at schedule t 0 (start + window) y p zero-le (omega arith) d
   ];
 }
 
@@ -240,7 +240,7 @@ module _ {schedule : List ℕ} {w : Scope} {until : List ℕ} (valid : Valid sch
         subst (λ q. differs_no schedule w.t m q ≡ false) e (differ_same _ _ (same_before (p - w.start) (omega arith) m (omega arith) b)));
     some = λ l.
         let (_, k, h, d) = told_differs (told l) l in
-        differs_at_lem schedule w.t w.start (w.start + window) first (w.start + k) (omega arith) (omega arith) d;
+        differs_at schedule w.t w.start (w.start + window) first (w.start + k) (omega arith) (omega arith) d;
   }
 
 pub change_first : {schedule until : List ℕ} {start t limit m : ℕ} → Valid schedule → t < limit → Lasts schedule (scope start t limit) until

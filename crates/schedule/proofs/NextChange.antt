@@ -19,7 +19,7 @@ use Rattle.schedule.proofs.DifferLaws.{differ_same}
 use Rattle.schedule.proofs.NumberLaws.{schedule_numbered}
 use Rattle.schedule.proofs.RecordLaws.{sounds_by}
 use Rattle.schedule.proofs.OpenLaws.{shut_after, to_lt}
-use Rattle.schedule.specs.Change.{change_call, change_conditions, differs_at_lem, first_differing, minutes, numbers_of}
+use Rattle.schedule.specs.Change.{change_call, change_conditions, differs_at, first_differing, minutes, numbers_of}
 use Rattle.schedule.specs.FirstChange.{AsAt, FirstChange, NextChange}
 use Rattle.schedule.specs.Schedule.{bad_schedule, linked_at, names, open_at, opening_at, record_conditions, record_count, schedule_nodes}
 use Rattle.schedule.specs.declared.change.Change.TheVariants.{At, Never, Refused}
@@ -53,8 +53,8 @@ module _ (schedule : List ℕ) (t : ℕ) where
   abbrev Differs : ℕ → Type 0
   Differs m = (a : ℕ) × (b : ℕ) × (a < n) × (b < n) × (linked_at schedule m a b ≢ linked_at schedule t a b)
 
-  differs_some : (m : ℕ) → differs_at_lem schedule t m ≡ true → Differs m
-  unfolding differs_at_lem
+  differs_some : (m : ℕ) → differs_at schedule t m ≡ true → Differs m
+  unfolding differs_at
   differs_some m e =
       let (a, b, l, h, d) = pair_some (differing m) n e in
       (a, b, omega arith, h, λ q. true≢false (sym d ∙ differ_same _ _ q))
@@ -63,14 +63,14 @@ module _ (schedule : List ℕ) (t : ℕ) where
   not_as_at m (a, b, ha, hb, d) same = d (same a b ha hb)
 
   module _ (v : Sounds schedule) where
-    same_below : (m : ℕ) → differs_at_lem schedule t m ≡ false → (a b : ℕ) → a < b → b < n → linked_at schedule m a b ≡ linked_at schedule t a b
-    unfolding differs_at_lem
+    same_below : (m : ℕ) → differs_at schedule t m ≡ false → (a b : ℕ) → a < b → b < n → linked_at schedule m a b ≡ linked_at schedule t a b
+    unfolding differs_at
     same_below m e a b l h = elim (test (differing m a b)) [
       | inl d ↦ absurd (true≢false (sym (pair_here (differing m) n a b l h d) ∙ e))
       | inr d ↦ differ_none _ _ d
     ]
 
-    same_all : (m : ℕ) → differs_at_lem schedule t m ≡ false → AsAt schedule t m
+    same_all : (m : ℕ) → differs_at schedule t m ≡ false → AsAt schedule t m
     same_all m e a b ha hb = elim (dec_lt a b) [
       | yes l ↦ same_below m e a b l hb
       | no l ↦ elim (dec_lt b a) [
@@ -84,9 +84,9 @@ module _ (schedule : List ℕ) (t : ℕ) where
     abbrev first : ℕ
     first = first_differing schedule t
 
-    first_from : FirstFrom (differs_at_lem schedule t) (t + 1) (t + 1 + (minutes - (t + 1))) first
+    first_from : FirstFrom (differs_at schedule t) (t + 1) (t + 1 + (minutes - (t + 1))) first
     unfolding first_differing
-    first_from = least_first (differs_at_lem schedule t) (t + 1) (minutes - (t + 1))
+    first_from = least_first (differs_at schedule t) (t + 1) (minutes - (t + 1))
 
     first_later : t < first
     first_later = omega (arith, first_from.start)

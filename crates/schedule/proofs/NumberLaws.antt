@@ -16,7 +16,7 @@ use Rattle.packed.specs.Bits.{differ}
 use Rattle.packed.specs.Inside.Search.{FirstFrom}
 use Rattle.packed.specs.Pairs.{pair_count, pair_index}
 use Rattle.schedule.proofs.OpenLaws.{linked_of}
-use Rattle.schedule.specs.Change.{differs_at_lem, first_differing, minutes}
+use Rattle.schedule.specs.Change.{differs_at, first_differing, minutes}
 use Rattle.schedule.specs.Schedule.{linked_at, names, open_at, opening_at, record_count, schedule_nodes}
 use Rattle.schedule.specs.Inside.Numbers.{differs_in, linked_no, open_to}
 use Rattle.schedule.specs.Inside.Records.{Sounds}
@@ -38,8 +38,8 @@ module _ (schedule : List ℕ) (v : Sounds schedule) where
   }
 
   -- a link differs exactly if a number does
-  differs_number : (t m end : ℕ) → pair_count n ≤ end → differs_at_lem schedule t m ≡ differs_in schedule 0 end t m
-  unfolding differs_at_lem differs_in
+  differs_number : (t m end : ℕ) → pair_count n ≤ end → differs_at schedule t m ≡ differs_in schedule 0 end t m
+  unfolding differs_at differs_in
   differs_number t m end all = same_test _ _
       (λ e.
       let (a, b, ha, hb, d) = pair_some (λ a b. differ (linked_at schedule m a b) (linked_at schedule t a b)) n e in
@@ -66,7 +66,7 @@ module _ (schedule : List ℕ) (v : Sounds schedule) where
   pub first_all : (t end r : ℕ) → pair_count n ≤ end → FirstFrom (differs_in schedule 0 end t) (t + 1) minutes r → r ≡ first_differing schedule t
   unfolding first_differing
   first_all t end r all f =
-      first_least (differs_at_lem schedule t) (record {
+      first_least (differs_at schedule t) (record {
         start = f.start;
         stop = f.stop;
         none = λ i a b. differs_number t i end all ∙ f.none i a b;

@@ -13,12 +13,12 @@ abbrev pub minutes : ℕ
 minutes = 65536
 
 -- some link at minute m differs from its state at t
-unfoldable pub differs_at_lem : List ℕ → ℕ → ℕ → Bool
-differs_at_lem schedule t m = any_pair (λ a b. differ (linked_at schedule m a b) (linked_at schedule t a b)) (schedule_nodes schedule)
+unfoldable pub differs_at : List ℕ → ℕ → ℕ → Bool
+differs_at schedule t m = any_pair (λ a b. differ (linked_at schedule m a b) (linked_at schedule t a b)) (schedule_nodes schedule)
 
 -- the first minute after t at which one does, and `minutes` where there is none
 unfoldable pub first_differing : List ℕ → ℕ → ℕ
-first_differing schedule t = least_from (differs_at_lem schedule t) (t + 1) (minutes - (t + 1))
+first_differing schedule t = least_from (differs_at schedule t) (t + 1) (minutes - (t + 1))
 
 abbrev pub change_conditions : List ℕ → List Condition
 change_conditions schedule = bad_schedule schedule ∷ record_conditions schedule

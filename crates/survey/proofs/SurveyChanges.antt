@@ -122,9 +122,9 @@ module _ (before r after : List ℕ) (w : Whole before) (l : length r ≡ record
     | no b ↦ let e : suc (m - 1) ≡ m = omega arith in (m - 1, omega (arith, counts), shift_after k (m - 1) (omega arith) ∙ e)
   ]
 
-  left_out_of : (a b : ℕ) → Thinned file less a b (shift k)
+  left_out : (a b : ℕ) → Thinned file less a b (shift k)
   unfolding is_for
-  left_out_of a b = record {
+  left_out a b = record {
     inside = λ i h. elim (dec_lt i k) [
       | yes c ↦ omega (arith, counts, shift_before k i c)
       | no c ↦ omega (arith, counts, shift_after k i (omega arith))
@@ -150,6 +150,6 @@ pub survey_changes : SurveyChanges
 survey_changes = record {
   appended = λ survey r threshold a b w l o. sym (linked_same (appended survey r a b w l o) threshold);
   counting = λ survey r a b i w l o. (at_back survey r a b w l o i, counts_forth (appended survey r a b w l o) i);
-  left_out_of = λ before r after n threshold w l s. λ j. (n - 1) ∷ edges_of (λ a b. linked_same (left_out_of before r after w l s a b) threshold j) n;
+  left_out = λ before r after n threshold w l s. λ j. (n - 1) ∷ edges_of (λ a b. linked_same (left_out before r after w l s a b) threshold j) n;
   higher = higher;
 }

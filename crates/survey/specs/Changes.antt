@@ -22,7 +22,7 @@ pub record SurveyChanges : Type 0 where
   pub counting : (survey r : List ℕ) (a b i : ℕ) → Whole survey → length r ≡ record_bytes → is_for r a b 0 ≡ false
       → Counts (survey ++ r) a b i ↔ Counts survey a b i
   -- A record that is superseded may be left out without changing the sheet.
-  pub left_out_of : (before r after : List ℕ) (n threshold : ℕ) → Whole before → length r ≡ record_bytes
+  pub left_out : (before r after : List ℕ) (n threshold : ℕ) → Whole before → length r ≡ record_bytes
       → Superseded (before ++ (r ++ after)) (record_count before) → sheet_from (before ++ after) n threshold ≡ sheet_from (before ++ (r ++ after)) n threshold
   -- Threshold up, no link more.
   pub higher : (survey : List ℕ) (low high a b : ℕ) → low ≤ high → linked_from survey high a b ≡ true → linked_from survey low a b ≡ true
