@@ -11,7 +11,7 @@ use packed::rows::{ROW_WORDS, Row, include, row_of, rows_within};
 
 // The refusal of an edit, and the first `count` nodes, which are renewed: the first `taken` of them take their bounds, and the others the smaller
 // of figure and bound. None where it is refused.
-#[derive(Drop)]
+#[derive(Clone, Copy)]
 pub struct Renewal {
     pub refusal: u64,
     pub nodes: [u8; MAX_TOUCHED],

@@ -17,7 +17,7 @@ use ego::words::{word_of, words_of};
 use packed::rows::{insert, row_of};
 
 // The first `count` nodes are the neighbours of an end, the other end at the place `at` among them, and the words are their edges.
-#[derive(Drop)]
+#[derive(Clone, Copy)]
 pub struct End {
     pub nodes: [u8; LIMIT],
     pub words: [Word; WORDS],
@@ -27,7 +27,7 @@ pub struct End {
 
 // Both ends; and for each neighbour of the one that is not linked to the other a word of the other's neighbours that are linked to it, `forth` from the
 // first end's neighbours and `back` from the second's.
-#[derive(Drop)]
+#[derive(Clone, Copy)]
 pub struct Ends {
     pub first: End,
     pub second: End,

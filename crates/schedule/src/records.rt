@@ -11,7 +11,7 @@ use state::refusal::{MALFORMED, NO_HOURS, earlier, pair_refusal};
 const RECORD_BYTES: usize = 6;
 
 // A record: the edge of a and b exists from minute `from` on, up to minute `to`.
-#[derive(Drop)]
+#[derive(Clone, Copy)]
 pub struct Opening {
     pub a: usize,
     pub b: usize,

@@ -17,7 +17,7 @@ pub const FIRST_RECORD: usize = 8;
 pub const RECORD_BITS: usize = 18;
 
 // What the reader yields.
-#[derive(Drop)]
+#[derive(Clone, Copy)]
 pub enum Item {
     // Links a and b.
     Add { a: usize, b: usize },
@@ -31,7 +31,7 @@ pub enum Item {
 }
 
 // What the reader yields, and the position that it is left at.
-#[derive(Drop)]
+#[derive(Clone, Copy)]
 pub struct Step {
     pub item: Item,
     pub at: usize,

@@ -10,7 +10,7 @@ use state::refusal::{PART_RECORD, earlier, pair_refusal};
 const RECORD_BYTES: usize = 5;
 
 // A record: in the survey of this number the link of a and b had this strength.
-#[derive(Drop)]
+#[derive(Clone, Copy)]
 pub struct Measurement {
     pub a: usize,
     pub b: usize,
