@@ -1,7 +1,7 @@
 //! Links the proved library's static libraries where they are built.
 //!
 //! They are looked for in the folder that FJ_STATICLIB names, and otherwise in the repository's
-//! target/staticlib, where `rt staticlib capi` and `rt staticlib port` write them. Where one is
+//! target/staticlib, where `tools/build` writes them. Where one is
 //! missing the package still builds, and only what needs the library is left out.
 
 use std::env;

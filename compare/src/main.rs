@@ -75,7 +75,7 @@ fn library() -> Result<&'static dyn Calls, String> {
 /// What is there where the library is linked.
 fn linked(version: Option<&'static dyn Calls>) -> Result<&'static dyn Calls, String> {
     version.ok_or_else(|| {
-        "the library is not linked: run `rt staticlib capi` and `rt staticlib port`, and build again".to_string()
+        "the library is not linked: run tools/build, and build again".to_string()
     })
 }
 
