@@ -25,7 +25,7 @@ use Rattle.topk.proofs.Top.{scored}
 use Rattle.topk.specs.Entries.{Entry, entry, insert, keep, last_or, stops}
 use Rattle.topk.specs.Inside.Layout.{All}
 use Rattle.state.specs.Inside.Honest.{Honest}
-use Rattle.topk.specs.Steps.{at, Progress, at_start, stored, took, worth}
+use Rattle.topk.specs.Steps.{Progress, at_start, stored, took, worth}
 
 -- whether a node is taken; whether it is, and was stale
 abbrev pub is_taken : List ℕ → ℕ → Bool

@@ -7,7 +7,6 @@ use native.Mathlib.Numerals.{add-one}
 use native.Mathlib.Omega.{arith}
 use lib.ListN.{drop, get_or, length, length-append, length-take, get_or-append, set, take, take-append-drop}
 use lib.Seq.{drop-append-le, drop_at, drop-cons, get_or-take, length-take-le, set_at, sets-eq, take_all, take-append-add, take-append-le, take_at, take-length, take-suc, take-take}
-use Rattle.arith.specs.Lists.{count}
 use Rattle.topk.proofs.LayoutLaws.{entries_flat, flat_append, flat-drop, flat-take, length-entries_of, length_flat}
 use Rattle.topk.proofs.PlaceLaws.{keep_put, length_put_in, place_le, put_in}
 use Rattle.topk.proofs.Sort.{length_keep}

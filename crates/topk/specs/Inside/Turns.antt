@@ -10,7 +10,6 @@ use Rattle.state.specs.Marks.{mark_bytes, stale}
 use Rattle.topk.specs.Entries.{entries_of, over}
 use Rattle.topk.specs.Inside.Layout.{Ordered}
 use Rattle.topk.specs.Inside.Next.{HeadsAre, Lookable, looking_in, stopped, taken_of}
-use Rattle.topk.specs.List.{list_of}
 use Rattle.topk.specs.Steps.{Progress, step}
 use Rattle.topk.specs.declared.turns.Turn.{Turn}
 use Rattle.topk.specs.declared.worth.Worth.{Worth}

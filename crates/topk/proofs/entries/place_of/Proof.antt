@@ -10,20 +10,20 @@ use Rattle.topk.specs.Inside.Layout.{place}
 use Rattle.topk.proofs.entries.place_of.Statement.{statement}
 use Rattle.topk.proofs.entries.place_of.Tie as tie
 
-abbrev invariant-loop : tie.invariant-loop
+abbrev invariant-loop : tie.invariant-loop-low
 invariant-loop entries kept node figure low₀ high₀ low high = Between kept (place (entry node figure) (entries_of kept entries)) low high
 
-abbrev decreases-loop : tie.decreases-loop
+abbrev decreases-loop : tie.decreases-loop-low
 decreases-loop entries kept node figure low₀ high₀ low high = high - low
 
 -- ---- the places: the call, and the loop's test
-abbrev start : tie.At-loop invariant-loop decreases-loop → tie.Start invariant-loop decreases-loop
+abbrev start : tie.At-loop-low invariant-loop decreases-loop → tie.Start invariant-loop decreases-loop
 start c = c.before.before
 
-abbrev looped : tie.After-pick2 invariant-loop decreases-loop → tie.At-loop invariant-loop decreases-loop
+abbrev looped : tie.After-pick-high invariant-loop decreases-loop → tie.At-loop-low invariant-loop decreases-loop
 looped c = c.before.before.before.before.before
 
-loop-holds : tie.Need-loop-init invariant-loop decreases-loop
+loop-holds : tie.Need-loop-low-init invariant-loop decreases-loop
 loop-holds c =
     let a = c.before.args in
     let xs = entries_of a.kept a.entries.now in
@@ -34,19 +34,19 @@ loop-holds c =
     }
 
 -- a turn
-closer : (c : tie.After-pick2 invariant-loop decreases-loop) → let b = looped c in let a = (start b).args in
+closer : (c : tie.After-pick-high invariant-loop decreases-loop) → let b = looped c in let a = (start b).args in
     Closer a.kept (place (entry a.node a.figure) (entries_of a.kept a.entries.now))
-    b.loop.low b.loop.high c.before.pick.result c.pick2.result
+    b.loop-low.low b.loop-low.high c.before.pick-low.result c.pick-high.result
 closer c =
     let b = looped c in
     let a = (start b).args in
-    let e = c.before.before.before.entry_at.ensures in
-    place_closer (entry a.node a.figure) a.kept a.entries.now ((b.loop.low + b.loop.high) / 2) (start b).pre.1
-    b.loop.inv (omega arith) (omega arith) (c.before.before.ranks-before.ensures ∙ ap (λ (x : Entry). before a.figure a.node x.figure x.node) e)
-    c.before.pick.ensures c.pick2.ensures
+    let e = c.before.before.before.entry_at-e.ensures in
+    place_closer (entry a.node a.figure) a.kept a.entries.now ((b.loop-low.low + b.loop-low.high) / 2) (start b).requires.1
+    b.loop-low.invariant (omega arith) (omega arith) (c.before.before.ranks_before-before.ensures ∙ ap (λ (x : Entry). before a.figure a.node x.figure x.node) e)
+    c.before.pick-low.ensures c.pick-high.ensures
 
-pub place-of-spec : {M : Type 1} → statement M
-place-of-spec =
+pub place_of_spec : {M : Type 1} → statement M
+place_of_spec =
     tie.close
     (tie.spec invariant-loop decreases-loop loop-holds (λ c. omega arith) (λ c κs. omega arith) (λ c κs. tt) (λ c. omega arith) (λ c κs. tt) (λ c κs. tt)
     (λ c. (closer c).fewer) (λ c. (closer c).between) (λ c. omega arith))
