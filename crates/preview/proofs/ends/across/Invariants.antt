@@ -1,0 +1,13 @@
+-- The loop of `preview::ends::across`: the first k words are those of the first k nodes. Assumes nothing.
+use Rattle.std.proofs.Common.{cond, get_or, replicate, ◌≡◌}
+use Rattle.arith.specs.Digits.{bit_of}
+use Rattle.arith.specs.Inside.Fill.{fill_to}
+use Rattle.arith.specs.Sums.{pack_to}
+use Rattle.ego.specs.Inside.Words.{word_count}
+use Rattle.packed.specs.Edges.{edge}
+use Rattle.preview.proofs.ends.across.Given as goal
+
+abbrev pub invariant-loop-k : goal.invariant-loop-k
+invariant-loop-k l =
+    l.crossing
+    ≡ fill_to (λ m. cond (bit_of l.near m) 0 (pack_to (λ j. edge l.edges (get_or l.nodes m 0) (get_or l.others j 0)) l.to.count)) (replicate word_count 0) l.k
