@@ -10,7 +10,6 @@ use Rattle.arith.proofs.Members.{concat_ext}
 use Rattle.arith.proofs.Range.{concat_once, times}
 use Rattle.arith.proofs.Tests.{eqb_same, test}
 use Rattle.arith.specs.Lists.{concat_map, cons_if, filter}
-use Rattle.ego.proofs.Complete.{once}
 use Rattle.ego.specs.Graph.{Graph, walks}
 
 pub walks_none : (g : Graph) (h : List ℕ) (u v : ℕ) → u ≢ v → walks g h 0 u v ≡ []

@@ -4,12 +4,8 @@ use Prim.Native.Nat.{◌+◌, ◌-◌, ◌/◌}
 use Rattle.arith.proofs.Sums.{table_by}
 use Rattle.ego.specs.Limits.{limit, unit}
 use Rattle.ego.specs.Inside.Words.{share_table}
-use Rattle.ego.proofs.share.shares.Statement.{statement}
-use Rattle.ego.proofs.share.shares.Tie as tie
+use Rattle.ego.proofs.share.shares.Goals as goal
 
-returns : tie.Need-returns
+pub returns : goal.returns
 unfolding share_table
 returns c = table_by (λ k. unit / (k + 1)) (limit - 1) _ refl refl
-
-pub shares-spec : {M : Type 1} → statement M
-shares-spec = tie.close (tie.spec returns)
