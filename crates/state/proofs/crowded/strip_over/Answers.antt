@@ -2,7 +2,6 @@
 use mathlib.Core.Path.{ap, ◌∙◌}
 use Prim.Native.Nat.{◌*◌, ◌+◌}
 use native.Mathlib.Omega.{arith}
-use borrow.Author.Rules.{rules}
 use lib.Dec.{ltb}
 use Rattle.arith.specs.Sums.{any_to}
 use Rattle.ego.specs.Graph.{degree}
@@ -10,19 +9,13 @@ use Rattle.ego.specs.Limits.{limit}
 use Rattle.packed.specs.Inside.Runs.{max_run}
 use Rattle.packed.specs.Edges.{edge}
 use Rattle.state.proofs.DegreeLaws.{strip_by}
-use Rattle.state.proofs.crowded.strip_over.Statement.{statement}
-use Rattle.state.proofs.crowded.strip_over.Tie as tie
+use Rattle.state.proofs.crowded.strip_over.Goals as goal
 
-returns : tie.Need-returns
+pub returns : goal.returns
 returns c =
     let s = c.before.before.before.before.before in
     let a = s.args in
     let m = c.before.least.ensures in
-    strip_by a.edges.now (max_run * a.k) max_run a.n c.before.before.before.strip_of.ensures c.before.least.result (omega (arith, m))
-    (omega (arith, m, s.requires.1)) c.any-among.ensures
+    strip_by a.edges.now (max_run * a.k) max_run a.n c.before.before.before.strip_of-degrees.ensures c.before.least.result (omega (arith, m))
+    (omega (arith, m, s.requires.1)) c.any_among.ensures
     ∙ ap (any_to (λ j. ltb limit (degree (edge a.edges.now) a.n (max_run * a.k + j)))) m
-
-pub strip-over-spec : {M : Type 1} → statement M
-strip-over-spec =
-    tie.close
-    (tie.spec (λ c κs. search rules) (λ c. search rules) (λ c. search rules) (λ c. search rules) (λ c κs. search rules) (λ c κs. search rules) returns)
