@@ -1,7 +1,7 @@
 -- When an edit turns back, from the list of the nodes that it touches and from their degrees. Assumes nothing.
 use mathlib.Core.Bool.{Bool, cond, false, true, true≢false}
 use mathlib.Core.List.{[], List, ◌∷◌}
-use mathlib.Core.Logic.{inl, inr, ◌≢◌}
+use mathlib.Core.Logic.{inl, inr}
 use mathlib.Core.Path.{ap, ap₂, refl, sym, ◌∙◌, ◌≡◌}
 use Prim.Native.Nat.{◌+◌, ◌<◌, ℕ, ◌≤◌}
 use native.Mathlib.Decide.{dec_lt, ℕ_discrete}
@@ -23,7 +23,7 @@ use Rattle.state.proofs.DegreeLaws.{within_by}
 use Rattle.state.proofs.RefusalLaws.{passed_after, passed_before, refusal_none, refused_after, refused_before}
 use Rattle.state.proofs.TouchLaws.{touched_first}
 use Rattle.state.specs.Refusal.{Condition, crowded_after, ends, refusal, too_many, touched}
-use Rattle.edits.proofs.ListedLaws.{count_two, each-length, each_node, first_is, listed, listed_ends, listed_touched, node_below, node_common, over_is, second_is}
+use Rattle.edits.proofs.ListedLaws.{count_two, each-length, each_node, first_is, listed_ends, listed_touched, node_below, node_common, over_is, second_is}
 use Rattle.edits.specs.Inside.Change.{Changeable, crowding, Editable, Examines}
 use Rattle.edits.specs.Inside.Touched.{Lists, max_touched, none_touched, of_each}
 use Rattle.edits.specs.declared.examined.Examined.{Examined}
