@@ -3,7 +3,7 @@ use mathlib.Core.Bool.{◌&&◌, Bool, false, not, true, true≢false}
 use mathlib.Core.List.{◌++◌, [], List, ◌∷◌}
 use mathlib.Core.Logic.{inl, inr, ◌≢◌}
 use mathlib.Core.Path.{refl, sym, ◌∙◌, ◌≡◌}
-use Prim.Native.Nat.{◌+◌, ◌<◌, ℕ}
+use Prim.Native.Nat.{◌<◌, ℕ}
 use native.Mathlib.Decide.{ℕ_discrete}
 use native.Mathlib.Omega.{arith}
 use borrow.Author.Tests.{eq-eqb}
