@@ -10,19 +10,19 @@ use Rattle.schedule.proofs.records.fault.Statement.{statement}
 use Rattle.schedule.proofs.records.fault.Tie as tie
 
 -- where the pair passes, the hours decide
-rest : (c : tie.Else1) →
+rest : (c : tie.Else-pair-ne0) →
     let s = c.before.before.args in
     refusal (opening_conditions s.n s.r) ≡ refusal (no_hours s.r.from s.r.to ∷ [])
-rest c = pairs_rest _ _ _ (sym c.before.pair-refusal.ensures ∙ c.if1.false)
+rest c = pairs_rest _ _ _ (sym c.before.pair_refusal-pair.ensures ∙ c.if-pair-ne0.false)
 
-returns : tie.Need-returns
-returns c = sym (append_refused _ _ (sym c.before.pair-refusal.ensures) c.if1.true)
+returns : tie.Need-returns-then-pair-ne0
+returns c = sym (append_refused _ _ (sym c.before.pair_refusal-pair.ensures) c.if-pair-ne0.true)
 
-returns-2 : tie.Need-returns-2
-returns-2 c = sym (rest c.before.before ∙ refused_hours _ _ _ c.if2.true)
+returns-2 : tie.Need-returns-then-r
+returns-2 c = sym (rest c.before.before ∙ refused_hours _ _ _ c.if-r.true)
 
-returns-3 : tie.Need-returns-3
-returns-3 c = sym (rest c.before.before ∙ passed_hours _ _ _ c.if2.false ∙ refusal_none)
+returns-3 : tie.Need-returns
+returns-3 c = sym (rest c.before.before ∙ passed_hours _ _ _ c.if-r.false ∙ refusal_none)
 
-pub fault-spec : {M : Type 1} → statement M
-fault-spec = tie.close (tie.spec (λ c κs. tt) returns returns-2 returns-3)
+pub fault_spec : {M : Type 1} → statement M
+fault_spec = tie.close (tie.spec (λ c κs. tt) returns returns-2 returns-3)

@@ -8,32 +8,32 @@ use Rattle.schedule.proofs.OpenLaws.{open_by, shut_after, shut_before}
 use Rattle.schedule.proofs.sheet.link_open.Statement.{statement}
 use Rattle.schedule.proofs.sheet.link_open.Tie as tie
 
-abbrev start : tie.After-link-arg → tie.Start
+abbrev start : tie.After-link-arg-1 → tie.Start
 start c = c.before.before.before.before.before.before
 
-returns : tie.Need-returns
+returns : tie.Need-returns-then-minute-r
 returns c =
     let s = c.before.before.before.args in
-    ap (λ t. cond t (with_edge s.edges.now s.r.a s.r.b true) s.edges.now) (sym (shut_before s.r s.minute c.if1.true))
+    ap (λ t. cond t (with_edge s.edges.now s.r.a s.r.b true) s.edges.now) (sym (shut_before s.r s.minute c.if-minute-r.true))
 
-returns-2 : tie.Need-returns-2
+returns-2 : tie.Need-returns-then-r-minute
 returns-2 c =
     let s = c.before.before.before.before.before.args in
-    ap (λ t. cond t (with_edge s.edges.now s.r.a s.r.b true) s.edges.now) (sym (shut_after s.r s.minute c.if2.true))
+    ap (λ t. cond t (with_edge s.edges.now s.r.a s.r.b true) s.edges.now) (sym (shut_after s.r s.minute c.if-r-minute.true))
 
-returns-3 : tie.Need-returns-3
+returns-3 : tie.Need-returns
 returns-3 c =
     let link = c.before.before in
     let arg = link.before in
     let s = (start arg).args in
     link.link.ensures
     ∙ ap (λ t. cond t (with_edge s.edges.now s.r.a s.r.b true) s.edges.now)
-    (sym (open_by s.r s.minute arg.before.before.before.if1.false arg.before.if2.false))
+    (sym (open_by s.r s.minute arg.before.before.before.if-minute-r.false arg.before.if-r-minute.false))
 
 link-requires : tie.Need-link-requires
 link-requires c κs =
     let s = start c in
-    room_within s.args.r.a s.args.r.b _ s.args.edges.now s.pre.0.nodes.first s.pre.0.nodes.second s.pre.1
+    room_within s.args.r.a s.args.r.b _ s.args.edges.now s.requires.0.nodes.first s.requires.0.nodes.second s.requires.1
 
-pub link-open-spec : {M : Type 1} → statement M
-link-open-spec = tie.close (tie.spec returns returns-2 link-requires (λ c. search rules) returns-3)
+pub link_open_spec : {M : Type 1} → statement M
+link_open_spec = tie.close (tie.spec returns returns-2 link-requires (λ c. search rules) returns-3)

@@ -1,0 +1,27 @@
+-- `schedule::records::opening_at` meets its contract: the four fields of one run. Assumes nothing.
+use Prim.Native.Nat.{◌*◌, ◌+◌, ℕ}
+use native.Mathlib.Nat.{add-zero}
+use native.Mathlib.Omega.{arith}
+use Rattle.packed.proofs.RunLaws.{run_field}
+use Rattle.schedule.specs.Schedule.{opening_at, record_bytes}
+use Rattle.schedule.proofs.records.opening_at.Goals as goal
+
+pub returns : goal.returns
+unfolding opening_at
+returns c =
+    let run = c.before.before.before.before in
+    let s = run.before.before.args in
+    let bs = s.schedule.now in
+    let at : ℕ = 8 * (1 + record_bytes * s.i) in
+    let read = run.bytes_at-record.ensures in
+    let a = rw (add-zero at) at (run_field bs at 0 8 40 read c.before.before.before.field.ensures) in
+    let b = run_field bs at 8 8 32 read c.before.before.field-2.ensures in
+    let from = run_field bs at 16 16 16 read c.before.field-3.ensures in
+    let to = run_field bs at 32 16 0 read c.field-4.ensures in
+    λ j. record { a = a j; b = b j; from = from j; to = to j }
+
+pub overflow_cast-result : goal.overflow_cast-result
+overflow_cast-result c = omega (arith, c.field-3.ensures)
+
+pub overflow_cast-result-2 : goal.overflow_cast-result-2
+overflow_cast-result-2 c = omega (arith, c.field-4.ensures)
