@@ -2,7 +2,7 @@
 use mathlib.Core.Bool.{cond}
 use mathlib.Core.List.{List, [], ◌∷◌, ◌++◌}
 use mathlib.Core.Path.{ap, ap₂, sym, ◌∙◌, ◌≡◌}
-use Prim.Native.Nat.{◌%◌, ◌-◌, suc, ℕ}
+use Prim.Native.Nat.{◌%◌, suc, ℕ}
 use native.Mathlib.Decide.{ℕ_discrete}
 use native.Mathlib.Omega.{arith}
 use borrow.Author.Tests.{le-ltb, lt-ltb, ne_eqb}

@@ -1,5 +1,5 @@
 -- The pairs of a survey by their numbers: a pair is linked as its number is. Assumes nothing.
-use mathlib.Core.Bool.{false, true, true≢false}
+use mathlib.Core.Bool.{false, true≢false}
 use mathlib.Core.List.{List}
 use mathlib.Core.Logic.{◌≢◌}
 use mathlib.Core.Path.{ap, sym, ◌∙◌, ◌≡◌}
