@@ -38,4 +38,4 @@ run (suc k) r = yields r ∷ run k (reader_after r)
 -- a reader over the listing, from its start; at the end it stays
 pub listing_read : (lent : Bor (List ℕ)) → lent.now ≡ listing_bytes → run 6 (start_of lent) ≡ (Add 0 1 ∷ Add 0 2 ∷ Add 0 3 ∷ ListFirst 2 ∷ End ∷ End ∷ [])
 unfolding any_to bit_at bit_of bits_left digit ends_at item_at read_at word_of
-listing_read lent e = ap (λ (s : List ℕ). run 6 (start_of (record { ref_ptr = lent.ref_ptr; ghost_name = lent.name; now = s }))) e
+listing_read lent e = ap (λ (s : List ℕ). run 6 (start_of (record { ref_ptr = lent.ref_ptr; now = s }))) e
