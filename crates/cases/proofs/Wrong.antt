@@ -14,8 +14,6 @@ use Rattle.cases.proofs.Sentences.{tested, tests}
 use Rattle.cases.specs.Wrong.{Excluded, found, models, Wrong, wrongs}
 use Rattle.history.specs.History.{edits, effect, first_k, links, nodes, others, refusal, Sentence, settled, settles, stale, worked}
 use Rattle.history.specs.Model.{no_pairs}
-use Rattle.state.specs.Marks as marks
-use Rattle.state.specs.Refusal as refusals
 
 -- ---- the sentences in a row
 
@@ -77,8 +75,8 @@ one_fails w = each (λ i. beq (verdict w (sentence i)) (not (eqb i (number w.bre
 pub excluded : (w : Wrong) → one_fails w ≡ true → Excluded w
 unfolding one_fails verdict
 excluded w t = record {
-  keeps = λ x d. (tests _ _ _ _ _ x).holds (judged x ∙ rw (ne_eqb (number x) (number w.breaks) (number_apart x w.breaks d)));
-  fails = (tests _ _ _ _ _ w.breaks).fails (judged w.breaks ∙ rw (eq-eqb (number w.breaks) (number w.breaks) refl));
+  keeps = λ x d. (tests _ (found w) _ _ (w.wrongly (effect (found w) w.call)) x).holds (judged x ∙ rw (ne_eqb (number x) (number w.breaks) (number_apart x w.breaks d)));
+  fails = (tests _ (found w) _ _ (w.wrongly (effect (found w) w.call)) w.breaks).fails (judged w.breaks ∙ rw (eq-eqb (number w.breaks) (number w.breaks) refl));
 }
   where
     judged : (x : Sentence) → verdict w x ≡ not (eqb (number x) (number w.breaks))
