@@ -4,12 +4,8 @@ use lib.Dec.{lit<}
 use Rattle.arith.specs.Sums.{tabulate}
 use Rattle.nearest.proofs.SetLaws.{set_made}
 use Rattle.nearest.proofs.StripLaws.{word_none}
-use Rattle.nearest.proofs.strips.empty.Statement.{statement}
-use Rattle.nearest.proofs.strips.empty.Tie as tie
+use Rattle.nearest.proofs.strips.empty.Goals as goal
 
-returns : tie.Need-returns
+pub returns : goal.returns
 unfolding tabulate
 returns c = set_made (λ k. 0) (λ q. false) (λ k. lit< tt) (λ q h. word_none q)
-
-pub empty-spec : {M : Type 1} → statement M
-empty-spec = tie.close (tie.spec returns)
