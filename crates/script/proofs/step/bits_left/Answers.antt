@@ -8,11 +8,7 @@ pub returns-then-script-gt-MAX_BYTES : goal.returns-then-script-gt-MAX_BYTES
 returns-then-script-gt-MAX_BYTES c = sym (left_long _ _ c.if-script-gt-MAX_BYTES.true)
 
 pub returns-then-bits-at : goal.returns-then-bits-at
-returns-then-bits-at c =
-    let s = c.before.before in
-    omega (arith, left_is s.args.script.now s.args.at c.before.if-script-gt-MAX_BYTES.false)
+returns-then-bits-at c = omega (arith, left_is c.args.script.now c.args.at c.if-script-gt-MAX_BYTES.false)
 
 pub returns : goal.returns
-returns c =
-    let s = c.before.before in
-    sym (left_is s.args.script.now s.args.at c.before.if-script-gt-MAX_BYTES.false)
+returns c = sym (left_is c.args.script.now c.args.at c.if-script-gt-MAX_BYTES.false)

@@ -4,8 +4,7 @@ use Rattle.script.proofs.ReadingLaws.{answered, past_fits, step_made}
 use Rattle.script.proofs.step.read_at.Goals as goal
 
 pub past-next-requires : goal.past-next-requires
-past-next-requires c =
-    rw c.item_at-item.ensures (past_fits c.args.script.now c.args.at (omega arith))
+past-next-requires c = rw c.item_at-item.ensures (past_fits c.args.script.now c.args.at (omega arith))
 
 pub returns : goal.returns
 returns c =
