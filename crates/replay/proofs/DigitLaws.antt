@@ -1,21 +1,20 @@
--- A number of 64 bits has at most 20 decimal digits. Assumes nothing.
-use mathlib.Core.Path.{◌≡◌}
-use Prim.Native.Nat.{◌+◌, ◌-◌, ◌<◌, ◌^◌, suc, zero, ℕ, ◌≤◌}
-use native.Mathlib.Decide.{dec_lt}
-use native.Mathlib.Omega.{arith}
-use lib.Pow.{pow-add}
-use Rattle.io.specs.Digits.{IsDigitCount}
+-- A number of 64 bits has at most 20 decimal digits, so that one with two digits left has room for both. Assumes nothing.
+use Rattle.std.proofs.Common.{List, ℕ, arith, drop, length, length-append, length-drop, ◌+◌, ◌++◌, ◌<◌, ◌≡◌, ◌≤◌, ◌^◌, ap, ◌/◌}
+use Rattle.std.proofs.lemmas.Fmt.{decimal_nonempty, decimal_step, length-decimal-le}
+use Rattle.std.specs.Fmt.{decimal}
 use Rattle.replay.specs.Limits.{max_digits}
 
-ten_pos : (d : ℕ) → 1 ≤ 10 ^ d
-ten_pos zero = omega arith
-ten_pos (suc d) = omega (arith, ten_pos d)
+pub few_digits : (x : ℕ) → x < 2 ^ 64 → length (decimal x) ≤ max_digits
+few_digits x h = length-decimal-le 20 x (omega arith) (omega arith) h
 
-pub few_digits : (n k : ℕ) → n < 18446744073709551616 → IsDigitCount 10 1 n k → k ≤ max_digits
-few_digits n k s f = elim (dec_lt max_digits k) [
-  | yes h ↦
-      let e : k - 1 ≡ 20 + (k - 21) = omega arith in
-      let p : 10 ^ (20 + (k - 21)) ≤ n = rw e at (f.2 (omega arith)) in
-      absurd (omega (arith, pow-add 10 20 (k - 21), ten_pos (k - 21), p))
-  | no h ↦ omega arith
-]
+two_digits : (x : ℕ) → 10 ≤ x → x < 2 ^ 64 → 2 ≤ length (decimal x)
+two_digits x l h =
+    let front : 0 < length (decimal (x / 10)) = decimal_nonempty (x / 10) (omega arith) in
+    rw decimal_step (omega (arith, length-append {A = ℕ}))
+
+-- the digits from a position on are written, and there is a position before it
+pub digits_room : (x rest at : ℕ) (digits : List ℕ) → x < 2 ^ 64 → rest < 2 ^ 64 → 10 ≤ rest → length digits ≡ max_digits
+    → decimal x ≡ decimal rest ++ drop (at + 1) digits → 0 < at
+digits_room x rest at digits hx hr l n e =
+    let all : length (decimal x) ≡ length (decimal rest ++ drop (at + 1) digits) = ap length e in
+    omega (arith, few_digits x hx, two_digits rest l hr, all, length-append {A = ℕ}, length-drop {A = ℕ})

@@ -1,5 +1,5 @@
 // The records of a script, each done on a state and answered by its lines.
-ghost use Rattle.std.specs.Prelude.{◌*◌, ◌<◌, ◌≤◌, length};
+ghost use Rattle.std.specs.Prelude.{◌*◌, ◌<◌, ◌≤◌, length, IfOk};
 ghost use Rattle.packed.specs.Pairs.{max_nodes};
 
 use crate::{lines, space};
@@ -9,92 +9,129 @@ use packed::edges::MAX_NODES;
 use script::reader::read;
 use script::step::{FIRST_RECORD, Item, MAX_BYTES};
 use state::sizes::{edge_bytes, mark_bytes};
+use std::io;
+use std::io::Write;
 use topk::list::list;
 
 // Adds the edge a, b.
-fn do_add(edges: &mut [u8], figures: &mut [u64], marks: &mut [u8], a: usize, b: usize) {
+fn do_add<W: Write>(
+    out: &mut W,
+    edges: &mut [u8],
+    figures: &mut [u64],
+    marks: &mut [u8],
+    a: usize,
+    b: usize,
+) -> io::Result<()> {
     let refusal = add(edges, figures, marks, a, b);
-    lines::three(b"add", a as u64, b as u64, refusal);
+    lines::three(out, b"add", a as u64, b as u64, refusal)
 }
 
 // Removes the edge a, b.
-fn do_remove(edges: &mut [u8], figures: &mut [u64], marks: &mut [u8], a: usize, b: usize) {
+fn do_remove<W: Write>(
+    out: &mut W,
+    edges: &mut [u8],
+    figures: &mut [u64],
+    marks: &mut [u8],
+    a: usize,
+    b: usize,
+) -> io::Result<()> {
     let refusal = remove(edges, figures, marks, a, b);
-    lines::three(b"remove", a as u64, b as u64, refusal);
+    lines::three(out, b"remove", a as u64, b as u64, refusal)
 }
 
 // Prints the first k entries, each a node and its grains.
-fn print_entries(entries: &[u64; 2 * MAX_NODES], k: usize)
+fn print_entries<W: Write>(out: &mut W, entries: &[u64; 2 * MAX_NODES], k: usize) -> io::Result<()>
     requires { k ≤ max_nodes }
 {
     for i in 0..k {
         let node = 2 * i;
         let grains = node + 1;
-        lines::two(entries[node], entries[grains]);
+        lines::two(out, entries[node], entries[grains])?;
     }
+    Ok(())
 }
 
 // Lists the first k nodes.
-fn do_list(edges: &[u8], figures: &mut [u64], marks: &mut [u8], k: usize)
+fn do_list<W: Write>(
+    out: &mut W,
+    edges: &[u8],
+    figures: &mut [u64],
+    marks: &mut [u8],
+    k: usize,
+) -> io::Result<()>
     requires { k ≤ max_nodes }
 {
     let mut entries = space::entries();
     let mut scratch = space::scratch();
     let end = 2 * k;
     let answer = list(edges, figures, marks, &mut entries[..end], &mut scratch);
-    lines::three(b"head", k as u64, answer.refusal, answer.recomputed);
+    lines::three(out, b"head", k as u64, answer.refusal, answer.recomputed)?;
     if answer.refusal == 0 {
-        print_entries(&entries, k);
+        print_entries(out, &entries, k)?;
     }
+    Ok(())
 }
 
 // Does what the script's reader yields at a position, and answers the position that the reader is left at.
-fn do_record(
+fn do_record<W: Write>(
+    out: &mut W,
     script: &[u8],
     at: usize,
     edges: &mut [u8],
     figures: &mut [u64],
     marks: &mut [u8],
-) -> usize
+) -> io::Result<usize>
     requires { at ≤ 8 * length script.now }
-    ensures { (at ≤ result) × (result ≤ 8 * length script.now) }
+    ensures { IfOk result (λ past. (at ≤ past) × (past ≤ 8 * length script.now)) }
 {
     let step = read(script, at);
     let item = step.item;
     match item {
-        Item::Add { a, b } => do_add(edges, figures, marks, a, b),
-        Item::Remove { a, b } => do_remove(edges, figures, marks, a, b),
-        Item::ListFirst { k } => do_list(edges, figures, marks, k),
-        Item::End => lines::word(b"end"),
-        Item::Malformed => lines::word(b"bad"),
+        Item::Add { a, b } => do_add(out, edges, figures, marks, a, b)?,
+        Item::Remove { a, b } => do_remove(out, edges, figures, marks, a, b)?,
+        Item::ListFirst { k } => do_list(out, edges, figures, marks, k)?,
+        Item::End => lines::word(out, b"end")?,
+        Item::Malformed => lines::word(out, b"bad")?,
     }
-    step.at
+    Ok(step.at)
 }
 
 // Does the records of a script in order, to its end or to what is malformed.
-fn do_records(script: &[u8], edges: &mut [u8], figures: &mut [u64], marks: &mut [u8])
+fn do_records<W: Write>(
+    out: &mut W,
+    script: &[u8],
+    edges: &mut [u8],
+    figures: &mut [u64],
+    marks: &mut [u8],
+) -> io::Result<()>
     requires { 0 < length script.now }
 {
     let mut at = FIRST_RECORD;
     loop {
-        let past = do_record(script, at, edges, figures, marks);
+        let past = do_record(out, script, at, edges, figures, marks)?;
         if past == at {
-            return;
+            return Ok(());
         }
         at = past;
     }
 }
 
 // Clears a state and does the records of a script on it.
-fn from_cleared(script: &[u8], edges: &mut [u8], figures: &mut [u64], marks: &mut [u8])
+fn from_cleared<W: Write>(
+    out: &mut W,
+    script: &[u8],
+    edges: &mut [u8],
+    figures: &mut [u64],
+    marks: &mut [u8],
+) -> io::Result<()>
     requires { 0 < length script.now }
 {
     clear(edges, figures, marks);
-    do_records(script, edges, figures, marks);
+    do_records(out, script, edges, figures, marks)
 }
 
 // Does the records of a script on a cleared state of n nodes.
-fn on_nodes(script: &[u8], n: usize)
+fn on_nodes<W: Write>(out: &mut W, script: &[u8], n: usize) -> io::Result<()>
     requires { (0 < length script.now) × (0 < n) × (n ≤ max_nodes) }
 {
     let mut edges = space::edges();
@@ -103,24 +140,23 @@ fn on_nodes(script: &[u8], n: usize)
     let edge_end = edge_bytes(n);
     let mark_end = mark_bytes(n);
     from_cleared(
+        out,
         script,
         &mut edges[..edge_end],
         &mut figures[..n],
         &mut marks[..mark_end],
-    );
+    )
 }
 
 // Replays a script: the number of nodes, the lines of its records, and whether it ends or is malformed.
-pub(crate) fn replay(script: &[u8]) {
+pub(crate) fn replay<W: Write>(out: &mut W, script: &[u8]) -> io::Result<()> {
     if script.len() == 0 {
-        lines::word(b"bad");
-        return;
+        return lines::word(out, b"bad");
     }
     if MAX_BYTES < script.len() {
-        lines::word(b"bad");
-        return;
+        return lines::word(out, b"bad");
     }
     let n = script[0] as usize + 1;
-    lines::one(b"posts", n as u64);
-    on_nodes(script, n);
+    lines::one(out, b"posts", n as u64)?;
+    on_nodes(out, script, n)
 }
