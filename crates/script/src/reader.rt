@@ -1,5 +1,5 @@
-// The script reader: a record over the lent script with the next bit's position. Its functions are thin over `read_at`, since each that has a
-// reader is proved by hand; `read` serves whoever has none.
+// The script reader: a record over the lent script with the next bit's position. Its functions are thin over `read_at`; `read` serves whoever
+// has no reader.
 ghost use Rattle.std.specs.Prelude.{◌≡◌};
 ghost use Rattle.script.specs.Moves.{reader_after, start_of, yields};
 ghost use Rattle.script.specs.Reading.{reading_at, reading_of};
