@@ -1,4 +1,4 @@
-// The limits of a score, and the words. specs/Limits.antt has the limits, once each, and specs/inside/Words.antt the words.
+// The limits of a score, and the words. specs/Limits.antt has the limits, once each, and specs/Inside/Words.antt the words.
 
 // The most edges that a node may have.
 pub const LIMIT: usize = 40;

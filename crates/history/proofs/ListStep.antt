@@ -8,7 +8,6 @@ use Prim.Native.Nat.{◌<◌, suc, zero, ℕ, ◌≤◌}
 use native.Mathlib.Decide.{ℕ_discrete}
 use native.Mathlib.Nat.{le_refl}
 use native.Mathlib.Omega.{arith}
-use denote.Laws.{shows}
 use lib.ListN.{drop, get_or, length, replicate, take}
 use Rattle.arith.proofs.Tests.{test}
 use Rattle.arith.specs.Sums.{count_to}
