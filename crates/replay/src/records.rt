@@ -1,5 +1,5 @@
 // The records of a script, each done on a state and answered by its lines.
-ghost use Rattle.std.specs.Prelude.{◌*◌, ◌<◌, ◌≤◌, length, IfOk};
+ghost use Rattle.std.specs.Prelude.{◌*◌, ◌<◌, ◌≤◌, length};
 ghost use Rattle.packed.specs.Pairs.{max_nodes};
 
 use crate::{lines, space};
@@ -72,7 +72,14 @@ fn do_list<W: Write>(
     Ok(())
 }
 
-// Does what the script's reader yields at a position, and answers the position that the reader is left at.
+// What a record did: the position that the reader is left at, and whether its lines could be written.
+#[derive(Drop)]
+struct Done {
+    past: usize,
+    written: io::Result<()>,
+}
+
+// Does what the script's reader yields at a position. The reader goes on though a line could not be written.
 fn do_record<W: Write>(
     out: &mut W,
     script: &[u8],
@@ -80,20 +87,23 @@ fn do_record<W: Write>(
     edges: &mut [u8],
     figures: &mut [u64],
     marks: &mut [u8],
-) -> io::Result<usize>
+) -> Done
     requires { at ≤ 8 * length script.now }
-    ensures { IfOk result (λ past. (at ≤ past) × (past ≤ 8 * length script.now)) }
+    ensures { (at ≤ result.past) × (result.past ≤ 8 * length script.now) }
 {
     let step = read(script, at);
     let item = step.item;
-    match item {
-        Item::Add { a, b } => do_add(out, edges, figures, marks, a, b)?,
-        Item::Remove { a, b } => do_remove(out, edges, figures, marks, a, b)?,
-        Item::ListFirst { k } => do_list(out, edges, figures, marks, k)?,
-        Item::End => lines::word(out, b"end")?,
-        Item::Malformed => lines::word(out, b"bad")?,
+    let written = match item {
+        Item::Add { a, b } => do_add(out, edges, figures, marks, a, b),
+        Item::Remove { a, b } => do_remove(out, edges, figures, marks, a, b),
+        Item::ListFirst { k } => do_list(out, edges, figures, marks, k),
+        Item::End => lines::word(out, b"end"),
+        Item::Malformed => lines::word(out, b"bad"),
+    };
+    Done {
+        past: step.at,
+        written,
     }
-    Ok(step.at)
 }
 
 // Does the records of a script in order, to its end or to what is malformed.
@@ -108,7 +118,9 @@ fn do_records<W: Write>(
 {
     let mut at = FIRST_RECORD;
     loop {
-        let past = do_record(out, script, at, edges, figures, marks)?;
+        let done = do_record(out, script, at, edges, figures, marks);
+        let past = done.past;
+        done.written?;
         if past == at {
             return Ok(());
         }

@@ -2,8 +2,8 @@
 use Rattle.std.proofs.Common.{length, ◌*◌, ◌-◌, ◌≤◌}
 use Rattle.replay.proofs.records.do_records.Given as goal
 
-abbrev pub invariant-loop-past : goal.invariant-loop-past
-invariant-loop-past g l = l.at ≤ 8 * length l.script
+abbrev pub invariant-loop-at : goal.invariant-loop-at
+invariant-loop-at g l = l.at ≤ 8 * length l.script
 
-abbrev pub decreases-loop-past : goal.decreases-loop-past
-decreases-loop-past g l = 8 * length l.script - l.at
+abbrev pub decreases-loop-at : goal.decreases-loop-at
+decreases-loop-at g l = 8 * length l.script - l.at
