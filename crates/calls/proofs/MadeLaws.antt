@@ -6,7 +6,9 @@ use mathlib.Core.Logic.{inl, inr}
 use mathlib.Core.Path.{ap, refl, ◌∙◌, ◌≡◌}
 use Prim.Native.Nat.{◌*◌, ◌-◌, suc, ℕ, ◌≤◌}
 use native.Mathlib.Omega.{arith}
+use borrow.Author.Tests.{ne_eqb}
 use borrow.Rule.Slice.PartMut.{put_mid}
+use Rattle.std.proofs.Common.{Result, IsErrAnd}
 use lib.Dec.{eqb}
 use lib.ListN.{drop, length, length-replicate, replicate, set, take}
 use Rattle.arith.proofs.Tests.{test}
@@ -19,10 +21,13 @@ use Rattle.packed.specs.Inside.Room.{Room}
 use Rattle.packed.specs.Pairs.{max_nodes, pair_count}
 use Rattle.ego.proofs.Agreement.{Agree}
 use Rattle.ego.specs.Graph.{Graph}
+use Rattle.state.proofs.AnswerLaws.{number_some, passed_on}
 use Rattle.state.proofs.CrowdedLaws.{too_many_agree}
 use Rattle.state.proofs.RefusalLaws.{passed_after, refusal_none, refused_after}
+use Rattle.state.specs.Answers.{number, refusal_of}
+use Rattle.state.specs.declared.refusal.Refusal.{Refusal}
 use Rattle.state.specs.Inside.MaxSizes.{max_edge_bytes}
-use Rattle.state.specs.Refusal.{crowded_after, everyone, refusal, too_many}
+use Rattle.state.specs.Refusal.{Condition, crowded_after, everyone, refusal, too_many}
 use Rattle.state.specs.Sizes.{edge_bytes, snapshot_bytes}
 use Rattle.calls.proofs.SnapshotLaws.{bytes_small, part_is, put_after}
 use Rattle.calls.specs.Inside.Made.{made_call}
@@ -53,6 +58,11 @@ module _ (made : List ℕ) (n : ℕ) (buffer : List ℕ) where
   pub made_written : too_many (edge (drop 1 made)) n everyone ≡ false → written 0 (take (length buffer) made) ≡ made_call made n buffer
   unfolding made_call
   made_written e = rw e
+
+-- refused by a check, whose refusal `?` hands on: the buffer is as it was
+pub written_on : {A : Type 0} (x : Result A Refusal) (r : Refusal) (cs : List Condition) (buffer out : List ℕ) → IsErrAnd x (λ e. e ≡ r)
+    → number r ≡ refusal cs → written (refusal_of x) buffer ≡ (let n : ℕ = refusal cs in written n (cond (eqb n 0) out buffer))
+written_on x r cs buffer out h e = rw (passed_on x r h ∙ e, ne_eqb (refusal cs) 0 (λ z. number_some r (e ∙ z)))
 
 -- ---- the edges by the numbers of the pairs
 

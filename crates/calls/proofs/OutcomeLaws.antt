@@ -4,7 +4,11 @@ use mathlib.Core.Path.{ap, sym, ◌∙◌, ◌≡◌}
 use Prim.Native.Nat.{ℕ}
 use borrow.Author.Tests.{ne_eqb}
 use lib.ListN.{length, replicate}
+use Rattle.std.proofs.Common.{Result, IsErrAnd}
+use Rattle.state.proofs.AnswerLaws.{left_by, refused_left}
 use Rattle.state.proofs.RefusalLaws.{append_refused, Fitted, fitted_append}
+use Rattle.state.specs.Answers.{number, refusal_of}
+use Rattle.state.specs.declared.refusal.Refusal.{Refusal}
 use Rattle.calls.specs.Clear.{cleared}
 use Rattle.state.specs.Marks.{all_exact, all_stale, mark_bytes}
 use Rattle.state.specs.Outcome.{left, lengths, outcome, state_lengths}
@@ -37,6 +41,16 @@ module _ (s : State) (cs : List Condition) (after : State) where
     pub call_accepted : {r : ℕ} {t : State} → r ≡ refusal cs → r ≡ 0 → t ≡ after → left 0 t ≡ outcome (lengths s ++ cs) s after
     unfolding lengths
     call_accepted e z q = accepted_is (lengths s ++ cs) s after (fitted_append (size s) (length s.edges) (length s.marks) cs f ∙ sym e ∙ z) q
+
+-- refused by a check, whose refusal `?` hands on
+module _ {A : Type 0} (x : Result A Refusal) (r : Refusal) (h : IsErrAnd x (λ e. e ≡ r)) (s : State) (cs : List Condition) (after : State) where
+  pub lengths_on : number r ≡ refusal (state_lengths (size s) (length s.edges) (length s.marks)) → left (refusal_of x) s ≡ outcome (lengths s ++ cs) s after
+  unfolding lengths
+  lengths_on e = refused_left (lengths s) cs x r s after h e
+
+  pub call_on : Fitted (size s) (length s.edges) (length s.marks) → number r ≡ refusal cs → left (refusal_of x) s ≡ outcome (lengths s ++ cs) s after
+  unfolding lengths
+  call_on f e = left_by (lengths s ++ cs) x r s after h (e ∙ sym (fitted_append (size s) (length s.edges) (length s.marks) cs f))
 
 -- the states that calls build, part by part
 pub state_is : {edges edges' figures figures' marks marks' : List ℕ} → edges ≡ edges' → figures ≡ figures' → marks ≡ marks'

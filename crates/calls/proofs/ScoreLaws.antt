@@ -20,8 +20,7 @@ use Rattle.state.specs.Outcome.{edge_lengths}
 use Rattle.state.specs.Refusal.{buffer_length, Condition, crowded_before, node_count, node_number, refusal, too_many}
 use Rattle.state.specs.Sizes.{edge_bytes}
 use Rattle.calls.proofs.AcceptLaws.{passes}
-use Rattle.calls.specs.Score.{score_call}
-use Rattle.calls.specs.declared.score.Scored.{Scored}
+use Rattle.calls.specs.Score.{score_call, scored}
 
 -- looking at one node
 pub one_over : (g : Graph) (n p : ℕ) → p < n → too_many g n (eqb p) ≡ ltb limit (degree g n p)
@@ -34,30 +33,27 @@ one_over g n p h = elim (test (ltb limit (degree g n p))) [
   ]) ∙ sym t
 ]
 
-abbrev scored_with : ℕ → ℕ → Scored
-scored_with refusal score = record { refusal = refusal; score = score }
-
 module _ (edges : List ℕ) (n p : ℕ) where
   abbrev conditions : List Condition
   conditions = node_number n p ∷ crowded_before (edge edges) n (eqb p) ∷ []
 
-  refused_with : {r : ℕ} → refusal (edge_lengths n (length edges) ++ conditions) ≡ r → (r ≡ 0 → ⊥) → scored_with r 0 ≡ score_call edges n p
+  refused_with : {r : ℕ} → refusal (edge_lengths n (length edges) ++ conditions) ≡ r → (r ≡ 0 → ⊥) → scored r 0 ≡ score_call edges n p
   unfolding score_call
   refused_with {r} e d = rw (e, ne_eqb r 0 d)
 
-  pub score_sizes : {r : ℕ} → r ≡ refusal (edge_lengths n (length edges)) → (r ≡ 0 → ⊥) → scored_with r 0 ≡ score_call edges n p
+  pub score_sizes : {r : ℕ} → r ≡ refusal (edge_lengths n (length edges)) → (r ≡ 0 → ⊥) → scored r 0 ≡ score_call edges n p
   score_sizes e d = refused_with (append_refused (edge_lengths n (length edges)) conditions (sym e) d) d
 
   module _ (s : Sized n (length edges)) where
-    pub score_node : n ≤ p → scored_with 4 0 ≡ score_call edges n p
+    pub score_node : n ≤ p → scored 4 0 ≡ score_call edges n p
     score_node h = refused_with (sized-append n (length edges) conditions s ∙ refused_node _ n p h) (λ e. omega arith)
 
-    pub score_crowded : p < n → limit < degree (edge edges) n p → scored_with 11 0 ≡ score_call edges n p
+    pub score_crowded : p < n → limit < degree (edge edges) n p → scored 11 0 ≡ score_call edges n p
     score_crowded h k =
         refused_with (sized-append n (length edges) conditions s ∙ passed_node _ n p h
         ∙ refused_before [] (edge edges) n (eqb p) (one_over (edge edges) n p h ∙ lt-ltb _ _ k)) (λ e. omega arith)
 
-    pub score_accepted : {r : ℕ} → p < n → degree (edge edges) n p ≤ limit → r ≡ score (edge edges) n p → scored_with 0 r ≡ score_call edges n p
+    pub score_accepted : {r : ℕ} → p < n → degree (edge edges) n p ≤ limit → r ≡ score (edge edges) n p → scored 0 r ≡ score_call edges n p
     unfolding score_call
     score_accepted h k q =
         rw (

@@ -18,7 +18,7 @@ use Rattle.calls.proofs.AcceptLaws.{append_same, outcome_accepted, outcome_refus
 use Rattle.calls.specs.Clear.{clear_call, cleared}
 use Rattle.calls.specs.Score.{score_call}
 use Rattle.calls.specs.Snapshot.{load_call, load_conditions, loaded, snapshot_byte, snapshot_of, write_call, write_conditions, written}
-use Rattle.calls.specs.declared.score.Scored.{Scored}
+use Rattle.calls.specs.Score.{Scored}
 use Rattle.state.proofs.CrowdedLaws.{before_agree}
 use Rattle.state.proofs.Spare.{alike_lengths, alike_links, alike_nodes, alike_refl, same_agree, spare_refl}
 use Rattle.state.specs.Outcome.{edge_lengths, lengths, Outcome, outcome}

@@ -4,7 +4,14 @@ use Rattle.packed.specs.Edges.{edge}
 use Rattle.ego.specs.Score.{score}
 use Rattle.state.specs.Refusal.{refusal, node_number, crowded_before}
 use Rattle.state.specs.Outcome.{edge_lengths}
-use Rattle.calls.specs.declared.score.Scored.{Scored}
+
+-- the refusal number, and the score beside it
+pub record Scored : Type 0 where
+  pub refusal : ℕ
+  pub score : ℕ
+
+abbrev pub scored : ℕ → ℕ → Scored
+scored refusal score = record { refusal = refusal; score = score }
 
 -- with a refusal, 0 for the score beside it
 unfoldable pub score_call : List ℕ → ℕ → ℕ → Scored

@@ -1,43 +1,25 @@
 // The call that scores one node.
 ghost use Rattle.std.specs.Prelude.{◌≡◌};
-ghost use Rattle.calls.specs.Score.{score_call};
+ghost use Rattle.state.specs.Answers.{refusal_of, value_of};
+ghost use Rattle.calls.specs.Score.{score_call, scored};
 
 use ego::limits::LIMIT;
 use ego::neighbours::neighbours_of;
 use ego::score::score_of;
-use state::refusal::{CROWDED_BEFORE, NODE};
-use state::sizes::edge_refusal;
+use state::refusal::Refusal;
+use state::sizes::check_edges;
 
-// The refusal number, and the score in grains, which is 0 beside a refusal.
-#[derive(Drop)]
-pub struct Scored {
-    pub refusal: u64,
-    pub score: u64,
-}
-
-fn refused(refusal: u64) -> Scored
-    ensures { result ≡ record { refusal = refusal; score = 0 } }
+// The score of node p in grains, from the edges of n nodes. Nothing lent is written.
+pub fn score(edges: &[u8], n: usize, p: usize) -> Result<u64, Refusal>
+    ensures { scored (refusal_of result) (value_of result) ≡ score_call edges.now n p }
 {
-    Scored { refusal, score: 0 }
-}
-
-// The score of node p, from the edges of n nodes. Nothing lent is written.
-pub fn score(edges: &[u8], n: usize, p: usize) -> Scored
-    ensures { result ≡ score_call edges.now n p }
-{
-    let size = edge_refusal(n, edges.len());
-    if size != 0 {
-        return refused(size);
-    }
+    check_edges(n, edges.len())?;
     if n <= p {
-        return refused(NODE);
+        return Err(Refusal::Node);
     }
-    let found = neighbours_of(edges, n, p);
-    let count = found.count;
-    if LIMIT < count {
-        return refused(CROWDED_BEFORE);
+    let near = neighbours_of(edges, n, p);
+    if LIMIT < near.count {
+        return Err(Refusal::CrowdedBefore);
     }
-    let nodes = found.nodes;
-    let score = score_of(edges, nodes, count);
-    Scored { refusal: 0, score }
+    Ok(score_of(edges, &near))
 }

@@ -2,6 +2,7 @@
 ghost use Rattle.std.specs.Prelude.{◌≡◌, suc, ◌*◌, ◌/◌, ◌^◌, ◌≤◌, ◌<◌, length};
 ghost use Rattle.arith.specs.Sums.{tabulate};
 ghost use Rattle.packed.specs.Pairs.{max_nodes};
+ghost use Rattle.state.specs.Answers.{refusal_of};
 ghost use Rattle.state.specs.Sizes.{edge_bytes};
 ghost use Rattle.state.specs.Refusal.{refusal, spare_set};
 ghost use Rattle.state.specs.Outcome.{left};
@@ -13,8 +14,8 @@ use packed::runs::run_of;
 use state::crowded::any_over;
 use state::figures::set_bounds;
 use state::marks::set_stale;
-use state::refusal::{CROWDED_AFTER, CROWDED_BEFORE, LENGTH, MALFORMED, OTHER_COUNT};
-use state::sizes::{edge_bytes, state_refusal};
+use state::refusal::Refusal;
+use state::sizes::{check_state, edge_bytes};
 
 // Whether a bit past the pairs of n nodes is set.
 fn spare_set(edges: &[u8], n: usize) -> bool
@@ -23,63 +24,45 @@ fn spare_set(edges: &[u8], n: usize) -> bool
 {
     let start = row_start(n);
     let spare = 8 * edges.len() - start;
-    if spare == 0 {
-        return false;
-    }
-    run_of(edges, start, spare) != 0
+    spare != 0 && run_of(edges, start, spare) != 0
 }
 
 // Refusals 9 and 10: the snapshot's form, and its number of nodes.
-fn form_refusal(n: usize, snapshot: &[u8]) -> u64
-    ensures { result ≡ refusal (form_conditions n snapshot.now) }
+fn check_form(n: usize, snapshot: &[u8]) -> Result<(), Refusal>
+    ensures { refusal_of result ≡ refusal (form_conditions n snapshot.now) }
 {
-    if snapshot.len() == 0 {
-        return MALFORMED;
+    if snapshot.is_empty() {
+        return Err(Refusal::Malformed);
     }
     let nodes = snapshot[0] as usize + 1;
-    if snapshot.len() != 1 + edge_bytes(nodes) {
-        return MALFORMED;
-    }
-    let edges = &snapshot[1..];
-    if spare_set(edges, nodes) {
-        return MALFORMED;
+    if snapshot.len() != 1 + edge_bytes(nodes) || spare_set(&snapshot[1..], nodes) {
+        return Err(Refusal::Malformed);
     }
     if nodes != n {
-        return OTHER_COUNT;
+        return Err(Refusal::OtherCount);
     }
-    0
-}
-
-// Copies bytes to a slice of their length.
-pub fn copy(to: &mut [u8], from: &[u8])
-    requires { length to.old ≡ length from.now }
-    ensures { to.new ≡ from.now }
-{
-    for i in 0..to.len() {
-        to[i] = from[i];
-    }
+    Ok(())
 }
 
 // Takes the edges of a snapshot; every node takes its bound and becomes stale.
-pub fn load(edges: &mut [u8], figures: &mut [u64], marks: &mut [u8], snapshot: &[u8]) -> u64
-    ensures { left result (state edges.new figures.new marks.new) ≡ load_call (state edges.old figures.old marks.old) snapshot.now }
+pub fn load(
+    edges: &mut [u8],
+    figures: &mut [u64],
+    marks: &mut [u8],
+    snapshot: &[u8],
+) -> Result<(), Refusal>
+    ensures { left (refusal_of result) (state edges.new figures.new marks.new) ≡ load_call (state edges.old figures.old marks.old) snapshot.now }
 {
     let n = figures.len();
-    let lengths = state_refusal(n, edges.len(), marks.len());
-    if lengths != 0 {
-        return lengths;
-    }
-    let form = form_refusal(n, snapshot);
-    if form != 0 {
-        return form;
-    }
+    check_state(n, edges.len(), marks.len())?;
+    check_form(n, snapshot)?;
     if any_over(&snapshot[1..], n) {
-        return CROWDED_AFTER;
+        return Err(Refusal::CrowdedAfter);
     }
-    copy(edges, &snapshot[1..]);
+    edges.copy_from_slice(&snapshot[1..]);
     set_bounds(edges, figures);
     set_stale(marks, n);
-    0
+    Ok(())
 }
 
 // A byte without its lowest bits.
@@ -95,31 +78,32 @@ fn copy_pairs(to: &mut [u8], edges: &[u8], n: usize)
     requires { (n ≤ max_nodes) × (length edges.now ≡ edge_bytes n) × (length to.old ≡ edge_bytes n) }
     ensures { to.new ≡ tabulate (λ k. snapshot_byte edges.now n (suc k)) (edge_bytes n) }
 {
-    copy(to, edges);
+    to.copy_from_slice(edges);
     let spare = 8 * edges.len() - row_start(n);
-    if spare == 0 {
-        return;
+    if spare != 0 {
+        let last = edges.len() - 1;
+        to[last] = trimmed(edges[last], spare);
     }
-    let last = edges.len() - 1;
-    to[last] = trimmed(edges[last], spare);
 }
 
 // Writes the snapshot of a state to a buffer of exactly its length.
-pub fn write(edges: &[u8], figures: &[u64], marks: &[u8], snapshot: &mut [u8]) -> u64
-    ensures { written result snapshot.new ≡ write_call (state edges.now figures.now marks.now) snapshot.old }
+pub fn write(
+    edges: &[u8],
+    figures: &[u64],
+    marks: &[u8],
+    snapshot: &mut [u8],
+) -> Result<(), Refusal>
+    ensures { written (refusal_of result) snapshot.new ≡ write_call (state edges.now figures.now marks.now) snapshot.old }
 {
     let n = figures.len();
-    let size = state_refusal(n, edges.len(), marks.len());
-    if size != 0 {
-        return size;
-    }
+    check_state(n, edges.len(), marks.len())?;
     if snapshot.len() != 1 + edge_bytes(n) {
-        return LENGTH;
+        return Err(Refusal::Length);
     }
     if any_over(edges, n) {
-        return CROWDED_BEFORE;
+        return Err(Refusal::CrowdedBefore);
     }
     snapshot[0] = (n - 1) as u8;
     copy_pairs(&mut snapshot[1..], edges, n);
-    0
+    Ok(())
 }

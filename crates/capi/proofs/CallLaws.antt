@@ -8,63 +8,62 @@ use native.Mathlib.Omega.{arith}
 use borrow.Author.Tests.{eq-eqb, ne_eqb}
 use lib.ListN.{length, replicate}
 use Rattle.packed.specs.Inside.Bytes.{Bytes}
-use Rattle.state.proofs.RefusalLaws.{append_refused, fitted_append, fitted_by, passed_length, refusal_none, refused_length}
+use Rattle.state.proofs.RefusalLaws.{append_none, fitted_append, fitted_by, passed_length, refusal_none, refused_length}
 use Rattle.state.specs.Outcome.{left, lengths, outcome, Outcome, state_lengths}
 use Rattle.state.specs.Refusal.{buffer_length, Condition, one_number, refusal}
 use Rattle.state.specs.State.{state, State}
 use Rattle.calls.proofs.OutcomeLaws.{accepted_is, cleared_is}
 use Rattle.calls.specs.Clear.{clear_call, cleared}
-use Rattle.calls.specs.Score.{score_call}
-use Rattle.calls.specs.declared.score.Scored.{Scored}
+use Rattle.calls.specs.Score.{score_call, Scored}
 use Rattle.edits.proofs.RenewalLaws.{renews_whole}
 use Rattle.edits.specs.Inside.Change.{edit_call, Edits}
-use Rattle.edits.specs.Inside.Renewal.{Renewable, renewed_by}
+use Rattle.edits.specs.Inside.Renewal.{Renewable, renewed_after}
 use Rattle.edits.specs.declared.renewal.Renewal.{Renewal}
+use Rattle.state.proofs.AnswerLaws.{number_some, passed_on}
+use Rattle.state.specs.Answers.{number, refusal_of}
+use Rattle.state.specs.declared.refusal.Refusal.{Refusal}
+use Rattle.std.proofs.Common.{Result, IsErrAnd}
 use Rattle.capi.proofs.FigureLaws.{bytes_back, figures_zero, length_decoded}
 use Rattle.capi.specs.Calls.{called, ended, fj_score, in_bytes, lent_lengths, numbered}
 use Rattle.capi.specs.Figures.{decoded, encoded}
-use Rattle.capi.specs.Inside.Requests.{call_of}
 use Rattle.capi.specs.Inside.Writing.{figure_count}
-use Rattle.capi.specs.declared.requests.Request.{Request}
 
 -- refusals 1 and 2
-module _ (n links figures marks : ℕ) {r : ℕ} (e : r ≡ refusal (state_lengths n links marks)) where
-  pub lengths_first : (r ≡ 0 → ⊥) → r ≡ refusal (lent_lengths n links figures marks)
-  lengths_first d = sym (append_refused (state_lengths n links marks) (buffer_length (8 * n) figures ∷ []) (sym e) d)
+module _ (n links figures marks : ℕ) (e : 0 ≡ refusal (state_lengths n links marks)) where
+  rest : refusal (lent_lengths n links figures marks) ≡ refusal (buffer_length (8 * n) figures ∷ [])
+  rest = fitted_append n links marks (buffer_length (8 * n) figures ∷ []) (fitted_by e refl)
 
-  module _ (z : r ≡ 0) where
-    rest : refusal (lent_lengths n links figures marks) ≡ refusal (buffer_length (8 * n) figures ∷ [])
-    rest = fitted_append n links marks (buffer_length (8 * n) figures ∷ []) (fitted_by e z)
+  pub figures_other : (figures ≡ 8 * n → ⊥) → 2 ≡ refusal (lent_lengths n links figures marks)
+  figures_other d = sym (rest ∙ refused_length [] (8 * n) figures d)
 
-    pub figures_other : (figures ≡ 8 * n → ⊥) → 2 ≡ refusal (lent_lengths n links figures marks)
-    figures_other d = sym (rest ∙ refused_length [] (8 * n) figures d)
-
-    pub lent_lengths_pass : figures ≡ 8 * n → 0 ≡ refusal (lent_lengths n links figures marks)
-    lent_lengths_pass h = sym (rest ∙ passed_length [] (8 * n) figures h ∙ refusal_none)
+  pub lent_lengths_pass : figures ≡ 8 * n → 0 ≡ refusal (lent_lengths n links figures marks)
+  lent_lengths_pass h = sym (rest ∙ passed_length [] (8 * n) figures h ∙ refusal_none)
 
 -- what a call that passes them knows
 pub record LengthsFit (n links figures marks : ℕ) : Type 0 where
   pub passed : refusal (state_lengths n links marks) ≡ 0
   pub figures_fit : figures ≡ 8 * n
 
-pub lent_fits : (n links figures marks : ℕ) → refusal (lent_lengths n links figures marks) ≡ 0 → LengthsFit n links figures marks
-lent_fits n links figures marks e = elim (ℕ_discrete (refusal (state_lengths n links marks)) 0) [
-  | no d ↦ absurd (d (lengths_first n links figures marks refl d ∙ e))
-  | yes q ↦ elim (ℕ_discrete figures (8 * n)) [
-    | yes h ↦ record { passed = q; figures_fit = h }
-    | no d ↦ absurd (omega (arith, e, figures_other n links figures marks refl q d))
-  ]
-]
+pub lent_fits : (n links figures marks : ℕ) → 0 ≡ refusal (lent_lengths n links figures marks) → LengthsFit n links figures marks
+lent_fits n links figures marks e =
+    let q = append_none (state_lengths n links marks) (buffer_length (8 * n) figures ∷ []) (sym e) in
+    elim (ℕ_discrete figures (8 * n)) [
+      | yes h ↦ record { passed = q; figures_fit = h }
+      | no d ↦ absurd (omega (arith, e, figures_other n links figures marks (sym q) d))
+    ]
 
-module _ (call : State → Outcome) (n : ℕ) (lent : State) {r : ℕ}
-    (e : r ≡ refusal (lent_lengths n (length lent.edges) (length lent.figures) (length lent.marks))) where
-  pub called_refused : (r ≡ 0 → ⊥) → left r lent ≡ called call n lent
-  unfolding called
-  called_refused d = rw (sym e, ne_eqb r 0 d)
+-- a call on lengths that are refused, or accepted
+module _ (call : State → Outcome) (n : ℕ) (lent : State) where
+  abbrev passing : ℕ
+  passing = refusal (lent_lengths n (length lent.edges) (length lent.figures) (length lent.marks))
 
-  pub called_passed : r ≡ 0 → {o : Outcome} → o ≡ ended call n lent → o ≡ called call n lent
+  pub called_refused : (x : Result (Unit {0}) Refusal) (r : Refusal) → IsErrAnd x (λ e. e ≡ r) → number r ≡ passing → left (refusal_of x) lent ≡ called call n lent
   unfolding called
-  called_passed z h = h ∙ sym (rw (sym e, z))
+  called_refused x r h e = rw (passed_on x r h, e, ne_eqb passing 0 (λ z. number_some r (e ∙ z)))
+
+  pub called_passed : 0 ≡ passing → {o : Outcome} → o ≡ ended call n lent → o ≡ called call n lent
+  unfolding called
+  called_passed e h = h ∙ sym (rw (sym e))
 
 pub score_given : (n : ℕ) (links : List ℕ) (p : ℕ) {s : Scored} → s ≡ score_call links n p → one_number s.refusal s.score ≡ fj_score n links p
 unfolding fj_score
@@ -96,9 +95,13 @@ module _ (n : ℕ) (lent : State) (bytes : Bytes lent.figures) (f : LengthsFit n
       → (length lent.figures ≡ 8 * figure_count lent.figures) × Renewable r (figure_count lent.figures)
   renew_fits h = (omega (arith, f.figures_fit), rw counted h)
 
-  pub edit_ended : (a b : ℕ) (on : Bool) {r : Renewal} {links figures marks : List ℕ} → Edits lent.edges lent.marks n a b on r links marks
-      → figures ≡ encoded (renewed_by r (decoded (figure_count lent.figures) lent.figures))
-      → left r.refusal (state links figures marks) ≡ ended (λ s. edit_call s a b on) n lent
+  -- none where the edit is refused
+  pub renews_none : lent.figures ≡ encoded (decoded (figure_count lent.figures) lent.figures)
+  renews_none = rw counted (sym (bytes_back n lent.figures bytes f.figures_fit))
+
+  pub edit_ended : (a b : ℕ) (on : Bool) {r : Result Renewal Refusal} {links figures marks : List ℕ} → Edits lent.edges lent.marks n a b on r links marks
+      → figures ≡ encoded (renewed_after r (decoded (figure_count lent.figures) lent.figures))
+      → left (refusal_of r) (state links figures marks) ≡ ended (λ s. edit_call s a b on) n lent
   edit_ended a b on h w =
       rw (w, counted) (ended_by (λ s. edit_call s a b on) (λ s d. outcome_keeps _ _ _ d)
       (renews_whole lent.edges lent.marks n a b on (decoded n lent.figures) (length_decoded n lent.figures) h refl))
@@ -114,7 +117,3 @@ module _ (n : ℕ) (lent : State) (bytes : Bytes lent.figures) (f : LengthsFit n
       let done = cleared_is n (e ∙ ap (λ k. replicate k 0) fits.sizes.edges_fit) refl (m ∙ ap (λ k. replicate k 0) fits.marks_fit) in
       rw (g ∙ ap (λ k. replicate k 0) f.figures_fit ∙ figures_zero n)
       (ended_by clear_call (λ s d. outcome_keeps _ _ _ d) (accepted_is _ (numbered n lent) _ passed (done ∙ ap cleared (sym long))))
-
--- the call that was asked for
-pub asked_is : {q q' : Request} (a b n : ℕ) (lent : State) {o : Outcome} → q ≡ q' → o ≡ ended (call_of q' a b) n lent → o ≡ ended (call_of q a b) n lent
-asked_is a b n lent h e = e ∙ sym (ap (λ q. ended (call_of q a b) n lent) h)

@@ -4,21 +4,26 @@ use mathlib.Core.Logic.{◌≢◌, ⊎_elim}
 use mathlib.Core.Path.{ap, ap₂, refl, sym, ◌∙◌, ◌≡◌}
 use Prim.Native.Nat.{◌%◌, ◌*◌, ◌+◌, ◌-◌, ◌/◌, ◌<◌, ◌^◌, suc, zero, ℕ, ◌≤◌}
 use native.Mathlib.Decide.{ℕ_discrete}
-use native.Mathlib.Nat.{add_comm, add-mul-div_right, add-mul-mod_self_right, div-eq_of_lt, eq-or-lt_of_le, le_antisymm, lt_of_lt_of_le, mod-eq_of_lt, mod-one, mul_comm, mul-le-mul_right, mul-suc, one-le-pow, pow-le-pow_right, pow-suc, zero-add}
-use native.Mathlib.Numerals.{add-one}
+use native.Mathlib.Nat.{add_comm, add-mul-div_right, add-mul-mod_self_right, div-eq_of_lt, eq-or-lt_of_le, mod-eq_of_lt, mod-one, mul_comm, mul-le-mul_right, mul-suc, one-le-pow, pow-suc, zero-add}
 use native.Mathlib.Omega.{arith}
 use lib.Arith.{mod-mul}
 use lib.Dec.{ltb}
 use lib.ListN.{get_or, get_or-replicate, length, length-replicate, length-set, replicate, set}
-use lib.Pow.{field, mod-mod-pow, pow-add, shl_exact}
+use lib.Pow.{field, mod-mod-pow, pow-add}
 use lib.Seq.{ext_get_or, get_or-set_other, get_or-set_same}
+use Rattle.std.proofs.lemmas.List.{drop-drop, get_or-append_right, get_or-drop, get_or-take, get_or_append_left, length-append, length-drop, length-take-le}
+use Rattle.std.specs.Int.{byte_worth, bytes_low_first, from_le_bytes, sum_through, to_le_bytes, w64}
+use Rattle.std.specs.Simd.{first_chunks}
+use lib.ListN.{drop, take}
+use mathlib.Core.List.{◌++◌}
+use native.Mathlib.Decide.{dec_lt}
 use Rattle.arith.proofs.Sums.{get_d_tabulate, length_tabulate, sum_to_ext, tabulate_is}
 use Rattle.arith.specs.Sums.{sum_to}
 use Rattle.packed.specs.Inside.Bytes.{Bytes}
 use Rattle.edits.proofs.RenewalLaws.{length_renew_each, renew_each_more, renew_each_none, renew_each_small}
 use Rattle.edits.specs.Inside.Renewal.{figure_by, renew_each}
 use Rattle.capi.specs.Figures.{byte_at, byte_of, decoded, encoded, figure_at}
-use Rattle.capi.specs.Inside.Writing.{figure_count, with_bytes}
+use Rattle.capi.specs.Inside.Writing.{figure_count}
 
 -- ---- the bytes of a number
 
@@ -26,12 +31,9 @@ pow_byte : (i : ℕ) → 2 ^ (8 * i) ≡ 256 ^ i
 pow_byte zero = refl
 pow_byte (suc i) = ap (λ k. 2 ^ k) (mul-suc 8 i) ∙ pow-add 2 (8 * i) 8 ∙ ap (λ m. m * 256) (pow_byte i) ∙ sym (pow-suc 256 i)
 
-pub byte_is : (x i : ℕ) → x / 2 ^ (8 * i) % 256 ≡ byte_of x i
+byte_is : (x i : ℕ) → x / 2 ^ (8 * i) % 256 ≡ byte_of x i
 unfolding byte_of
 byte_is x i = ap (λ m. x / m % 256) (pow_byte i)
-
-pub weight_is : {b i : ℕ} → b < 256 → i < 8 → b * 2 ^ (8 * i) % 2 ^ 64 ≡ b * 256 ^ i
-weight_is {b} {i} h k = shl_exact 8 (8 * i) 64 h (omega arith) ∙ ap (λ m. b * m) (pow_byte i)
 
 -- a number of n bytes is what they come to
 bytes_sum : (x n : ℕ) → sum_to (λ i. byte_of x i * 256 ^ i) n ≡ x % 256 ^ n
@@ -115,75 +117,88 @@ decoded_fits : (n : ℕ) (bytes : List ℕ) → Bytes bytes → (p : ℕ) → p 
 unfolding decoded figure_at
 decoded_fits n bytes small p h = rw (get_d_tabulate (figure_at bytes) n p 0 h) (sum_fits (λ i. get_or bytes (8 * p + i) 0) (λ i. small (8 * p + i)) 8)
 
--- ---- the loop that reads one
+-- ---- one that is read
 
--- what the first i bytes of the figure of node p come to
-unfoldable pub figure_to : List ℕ → ℕ → ℕ → ℕ
-figure_to bytes p i = sum_to (λ j. get_or bytes (8 * p + j) 0 * 256 ^ j) i
+-- a figure is 8 bytes of them, one after another
+chunk_at : (n k p : ℕ) (l d : List ℕ) → p < k → get_or (first_chunks n k l) p d ≡ take n (drop (n * p) l)
+chunk_at n zero p l d h = absurd (omega arith)
+chunk_at n (suc k) zero l d h = let z : 0 ≡ n * 0 = omega arith in ap (λ m. take n (drop m l)) z
+chunk_at n (suc k) (suc p) l d h =
+    let next : n + n * p ≡ n * suc p = omega arith in
+    chunk_at n k p (drop n l) d (omega arith) ∙ ap (take n) (drop-drop (n * p) n l ∙ ap (λ m. drop m l) next)
 
-pub figure_start : (bytes : List ℕ) (p : ℕ) → 0 ≡ figure_to bytes p 0
-unfolding figure_to sum_to
-figure_start bytes p = refl
+sum_worth : (bytes : List ℕ) (n : ℕ) → sum_through (λ i. byte_worth i (get_or bytes i 0)) n ≡ sum_to (λ i. get_or bytes i 0 * 256 ^ i) (suc n)
+unfolding sum_to
+sum_worth bytes zero = omega arith
+sum_worth bytes (suc n) = ap (λ s. s + get_or bytes (suc n) 0 * 256 ^ suc n) (sum_worth bytes n)
 
-module _ (bytes : List ℕ) (p i : ℕ) {x v : ℕ} (e : x ≡ figure_to bytes p i) (w : v ≡ get_or bytes (8 * p + i) 0 * 256 ^ i) where
-  pub figure_next : x + v ≡ figure_to bytes p (i + 1)
-  unfolding figure_to sum_to
-  figure_next = rw add-one (ap₂ (λ a b. a + b) e w)
+pub figure_read : (bytes : List ℕ) (p k : ℕ) (d : List ℕ) → p < k → from_le_bytes w64 (get_or (first_chunks 8 k bytes) p d) ≡ figure_at bytes p
+unfolding figure_at
+figure_read bytes p k d h =
+    ap (from_le_bytes w64) (chunk_at 8 k p bytes d h) ∙ sum_worth (take 8 (drop (8 * p) bytes)) 7
+    ∙ sum_to_ext _ _ 8 (λ i l. ap (λ b. b * 256 ^ i) (get_or-take 8 (drop (8 * p) bytes) i 0 l ∙ get_or-drop (8 * p) bytes i 0))
 
-  pub figure_fits : ((k : ℕ) → get_or bytes k 0 < 256) → i < 8 → x + v < 2 ^ 64
-  unfolding figure_to
-  figure_fits h k =
-      rw figure_next
-      (lt_of_lt_of_le (sum_fits (λ j. get_or bytes (8 * p + j) 0) (λ j. h (8 * p + j)) (i + 1)) (pow-le-pow_right (omega arith) {j = 8} (omega arith)))
+-- ---- one that is written
 
-pub figure_end : (bytes : List ℕ) (p i : ℕ) {x : ℕ} → x ≡ figure_to bytes p i → i ≡ 8 → x ≡ figure_at bytes p
-unfolding figure_to figure_at
-figure_end bytes p i e h = e ∙ ap (figure_to bytes p) h
+low_bytes : (s k x i : ℕ) → i < k → get_or (bytes_low_first s k x) i 0 ≡ byte_of x (s + i)
+unfolding byte_of
+low_bytes s zero x i h = absurd (omega arith)
+low_bytes zero (suc k) x zero h = omega arith
+low_bytes (suc s) (suc k) x zero h = let e : suc s ≡ suc s + 0 = omega arith in ap (λ m. x / 256 ^ m % 256) e
+low_bytes s (suc k) x (suc i) h = let e : suc s + i ≡ s + suc i = omega arith in low_bytes (suc s) k x i (omega arith) ∙ ap (byte_of x) e
 
--- ---- the loop that writes one
+-- 8 bytes in the place of a figure's
+abbrev in_place : List ℕ → ℕ → List ℕ → List ℕ
+in_place l p ys = take (8 * p) l ++ (ys ++ drop (8 * p + 8) l)
 
-pub bytes_next : (l : List ℕ) (p x i : ℕ) {a : List ℕ} {v : ℕ} → a ≡ with_bytes l p x i → v ≡ byte_of x i
-    → set a (8 * p + i) v ≡ with_bytes l p x (i + 1)
-unfolding with_bytes
-bytes_next l p x i e f = rw add-one (ap₂ (λ (b : List ℕ) (w : ℕ). set b (8 * p + i) w) e f)
+module _ (l : List ℕ) (p : ℕ) (ys : List ℕ) (room : 8 * p + 8 ≤ length l) (long : length ys ≡ 8) where
+  before : length (take (8 * p) l) ≡ 8 * p
+  before = length-take-le (8 * p) l (omega arith)
 
-pub length_bytes : (l : List ℕ) (p x i : ℕ) → length (with_bytes l p x i) ≡ length l
-unfolding with_bytes
-length_bytes l p x zero = refl
-length_bytes l p x (suc i) = length-set (with_bytes l p x i) (8 * p + i) (byte_of x i) ∙ length_bytes l p x i
+  place_in : (j : ℕ) → j < 8 → get_or (in_place l p ys) (8 * p + j) 0 ≡ get_or ys j 0
+  place_in j h =
+      let e : 8 * p + j - 8 * p ≡ j = omega arith in
+      get_or-append_right (take (8 * p) l) _ (8 * p) (8 * p + j) 0 before (omega arith)
+      ∙ ap (λ m. get_or (ys ++ drop (8 * p + 8) l) m 0) e ∙ get_or_append_left ys _ 0 j (omega arith)
 
-module _ (l : List ℕ) (p x : ℕ) where
-  bytes_in : (i j : ℕ) → 8 * p + i ≤ length l → j < i → get_or (with_bytes l p x i) (8 * p + j) 0 ≡ byte_of x j
-  unfolding with_bytes
-  bytes_in zero j r h = absurd (omega arith)
-  bytes_in (suc i) j r h = elim (ℕ_discrete j i) [
-    | yes e ↦ rw e (get_or-set_same (with_bytes l p x i) (8 * p + i) (byte_of x i) 0 (omega (arith, length_bytes l p x i)))
-    | no d ↦ get_or-set_other (with_bytes l p x i) (8 * p + i) (8 * p + j) (byte_of x i) 0 (λ e. omega arith) ∙ bytes_in i j (omega arith) (omega arith)
+  place_else : (k : ℕ) → k / 8 ≢ p → get_or (in_place l p ys) k 0 ≡ get_or l k 0
+  place_else k d = elim (dec_lt k (8 * p)) [
+    | yes h ↦ get_or_append_left (take (8 * p) l) _ 0 k (omega (arith, before)) ∙ get_or-take (8 * p) l k 0 h
+    | no h ↦
+        let past : 8 * p + 8 ≤ k = omega arith in
+        let e : 8 * p + 8 + (k - 8 * p - 8) ≡ k = omega arith in
+        get_or-append_right (take (8 * p) l) _ (8 * p) k 0 before (omega arith)
+        ∙ get_or-append_right ys _ 8 (k - 8 * p) 0 long (omega arith)
+        ∙ get_or-drop (8 * p + 8) l (k - 8 * p - 8) 0 ∙ ap (λ m. get_or l m 0) e
   ]
 
-  bytes_else : (i k : ℕ) → i ≤ 8 → k / 8 ≢ p → get_or (with_bytes l p x i) k 0 ≡ get_or l k 0
-  unfolding with_bytes
-  bytes_else zero k h d = refl
-  bytes_else (suc i) k h d =
-      get_or-set_other (with_bytes l p x i) (8 * p + i) k (byte_of x i) 0 (λ e. d (omega arith)) ∙ bytes_else i k (omega arith) d
+  length_place : length (in_place l p ys) ≡ length l
+  length_place = omega (
+    arith,
+    length-append (take (8 * p) l) (ys ++ drop (8 * p + 8) l),
+    length-append ys (drop (8 * p + 8) l),
+    before,
+    long,
+    length-drop (8 * p + 8) l,
+  )
 
--- ---- what is written to them
-
--- one figure
-pub figure_written : (figures : List ℕ) (p x : ℕ) → p < length figures → with_bytes (encoded figures) p x 8 ≡ encoded (set figures p x)
+pub figure_written : (figures : List ℕ) (p x : ℕ) → p < length figures → in_place (encoded figures) p (to_le_bytes w64 x) ≡ encoded (set figures p x)
 figure_written figures p x h =
     let long = length_encoded figures in
     let kept = length-set figures p x in
-    ext_get_or 0 (with_bytes (encoded figures) p x 8) (encoded (set figures p x))
-    (length_bytes (encoded figures) p x 8 ∙ long ∙ ap (λ m. 8 * m) (sym kept) ∙ sym (length_encoded (set figures p x))) (λ k b.
-    let within : k < 8 * length figures = omega (arith, length_bytes (encoded figures) p x 8, long) in
+    let old = encoded figures in
+    let ys = to_le_bytes w64 x in
+    let room : 8 * p + 8 ≤ length old = omega (arith, long) in
+    ext_get_or 0 (in_place old p ys) (encoded (set figures p x))
+    (length_place old p ys room refl ∙ long ∙ ap (λ m. 8 * m) (sym kept) ∙ sym (length_encoded (set figures p x))) (λ k b.
+    let within : k < 8 * length figures = omega (arith, length_place old p ys room refl, long) in
     sym (encoded_at (set figures p x) k (omega (arith, kept)) ∙ elim (ℕ_discrete (k / 8) p) [
       | yes e ↦
           let place : 8 * p + k % 8 ≡ k = omega arith in
           ap (λ q. byte_of (get_or (set figures p x) q 0) (k % 8)) e ∙ ap (λ y. byte_of y (k % 8)) (get_or-set_same figures p x 0 h)
-          ∙ sym (bytes_in (encoded figures) p x 8 (k % 8) (omega (arith, long)) (omega arith)) ∙ ap (λ m. get_or (with_bytes (encoded figures) p x 8) m 0) place
+          ∙ sym (place_in old p ys room refl (k % 8) (omega arith) ∙ low_bytes 0 8 x (k % 8) (omega arith) ∙ ap (byte_of x) (zero-add (k % 8))) ∙ ap (λ m. get_or (in_place old p ys) m 0) place
       | no d ↦ ap (λ y. byte_of y (k % 8)) (get_or-set_other figures p (k / 8) x 0 d) ∙ sym (encoded_at figures k within)
-          ∙ sym (bytes_else (encoded figures) p x 8 k (omega arith) d)
+          ∙ sym (place_else old p ys room refl k d)
     ]))
 
 -- all of them 0
@@ -217,10 +232,6 @@ module _ (l nodes bounds : List ℕ) (taken : ℕ) where
   length_renewing : (i : ℕ) → length (renewing i) ≡ figure_count l
   length_renewing i = length_renew_each nodes bounds taken (decoded (figure_count l) l) i ∙ length_decoded (figure_count l) l
 
-  pub length_renewed : (i : ℕ) {bytes : List ℕ} → bytes ≡ renewed_to i → length bytes ≡ 8 * figure_count l
-  unfolding renewed_to
-  length_renewed i e = ap length e ∙ length_encoded (renewing i) ∙ ap (λ m. 8 * m) (length_renewing i)
-
   module _ (b : Bytes l) (count : ℕ) (fits : (i : ℕ) → i < count → get_or bounds i 0 < 2 ^ 64) where
     renewing_fits : (i : ℕ) → i ≤ count → (p : ℕ) → p < figure_count l → get_or (renewing i) p 0 < 2 ^ 64
     renewing_fits i h p k =
@@ -229,15 +240,15 @@ module _ (l nodes bounds : List ℕ) (taken : ℕ) where
 
     pub renew_more : (i : ℕ) {bytes next : List ℕ} {figure x : ℕ} → i < count → bytes ≡ renewed_to i → get_or nodes i 0 < figure_count l
         → figure ≡ figure_at bytes (get_or nodes i 0) → x ≡ figure_by (ltb i taken) figure (get_or bounds i 0)
-        → next ≡ with_bytes bytes (get_or nodes i 0) x 8 → next ≡ renewed_to (i + 1)
+        → next ≡ in_place bytes (get_or nodes i 0) (to_le_bytes w64 x) → next ≡ renewed_to (i + 1)
     unfolding renewed_to
     renew_more i {x = x} c e h f q w =
         let p = get_or nodes i 0 in
         let long : p < length (renewing i) = omega (arith, length_renewing i) in
         let known = f ∙ ap (λ l. figure_at l p) e ∙ figure_back (renewing i) p long (renewing_fits i (omega arith) p h) in
-        w ∙ ap (λ b. with_bytes b p x 8) e ∙ figure_written (renewing i) p x long
+        w ∙ ap (λ b. in_place b p (to_le_bytes w64 x)) e ∙ figure_written (renewing i) p x long
         ∙ ap encoded (renew_each_more nodes bounds taken (decoded (figure_count l) l) i refl (q ∙ ap (λ y. figure_by (ltb i taken) y (get_or bounds i 0)) known))
 
-  pub renew_end : {i count : ℕ} {bytes : List ℕ} → i ≤ count → count ≤ i → bytes ≡ renewed_to i → bytes ≡ encoded (renewing count)
+  pub renew_end : {i count : ℕ} {bytes : List ℕ} → i ≡ count → bytes ≡ renewed_to i → bytes ≡ encoded (renewing count)
   unfolding renewed_to
-  renew_end h k e = e ∙ ap renewed_to (le_antisymm h k)
+  renew_end h e = e ∙ ap renewed_to h

@@ -1,3 +1,2 @@
 -- What only the contracts inside the library cite: no promise needs it.
-pub mod Requests
 pub mod Writing

@@ -9,16 +9,16 @@ ghost use Rattle.state.specs.Outcome.{left};
 ghost use Rattle.capi.specs.Calls.{fj_clear, fj_add, fj_remove, fj_score};
 ghost use Rattle.state.specs.State.{state};
 
-use crate::requests::{Request, on_bytes};
+use crate::requests::{clear_bytes, edit_bytes};
 use calls::score::score;
-use state::refusal::one_number;
+use state::refusal::{number_of, one_number};
 
 // Clears the board.
 #[unsafe(no_mangle)]
 pub extern "C" fn fj_clear(n: u64, links: &mut [u8], figures: &mut [u8], marks: &mut [u8]) -> u64
     ensures { left result (state links.new figures.new marks.new) ≡ fj_clear n (state links.old figures.old marks.old) }
 {
-    on_bytes(n, links, figures, marks, Request::Clear, 0, 0)
+    number_of(clear_bytes(n, links, figures, marks))
 }
 
 // Adds the link of posts a and b.
@@ -33,7 +33,7 @@ pub extern "C" fn fj_add(
 ) -> u64
     ensures { left result (state links.new figures.new marks.new) ≡ fj_add n (state links.old figures.old marks.old) a b }
 {
-    on_bytes(n, links, figures, marks, Request::Add, a, b)
+    number_of(edit_bytes(n, links, figures, marks, a, b, true))
 }
 
 // Removes the link of posts a and b.
@@ -48,7 +48,7 @@ pub extern "C" fn fj_remove(
 ) -> u64
     ensures { left result (state links.new figures.new marks.new) ≡ fj_remove n (state links.old figures.old marks.old) a b }
 {
-    on_bytes(n, links, figures, marks, Request::Remove, a, b)
+    number_of(edit_bytes(n, links, figures, marks, a, b, false))
 }
 
 // The score of a post in grains, or 2^64 less the refusal number. Nothing lent is written.
@@ -56,6 +56,5 @@ pub extern "C" fn fj_remove(
 pub extern "C" fn fj_score(n: u64, links: &[u8], post: u64) -> u64
     ensures { result ≡ fj_score n links.now post }
 {
-    let found = score(links, n as usize, post as usize);
-    one_number(found.refusal, found.score)
+    one_number(score(links, n as usize, post as usize))
 }

@@ -3,13 +3,20 @@ use mathlib.Core.Bool.{Bool, cond, false, true}
 use mathlib.Core.List.{List}
 use mathlib.Core.Logic.{inl, inr}
 use mathlib.Core.Path.{ap, refl, sym, ◌∙◌, ◌≡◌}
-use Prim.Native.Nat.{◌<◌, ℕ, ◌≤◌}
+use Prim.Native.Nat.{◌+◌, ◌<◌, ℕ, ◌≤◌}
 use native.Mathlib.Omega.{arith}
 use lib.ListN.{get_or, length}
 use Rattle.arith.proofs.Tests.{test}
 use Rattle.calls.proofs.OutcomeLaws.{accepted_is, state_is}
 use Rattle.ego.proofs.Bounds.{bound_most}
+use Rattle.arith.specs.Inside.Fill.{padded}
+use Rattle.ego.proofs.FoundLaws.{found_degree, found_of}
 use Rattle.ego.specs.Bound.{bound}
+use Rattle.ego.specs.Inside.Words.{Ascending, first_neighbours}
+use Rattle.ego.specs.Limits.{limit}
+use Rattle.ego.specs.declared.neighbours.Neighbours.{Neighbours}
+use Rattle.packed.specs.Inside.Room.{Room}
+use Rattle.packed.specs.Pairs.{max_nodes}
 use Rattle.packed.proofs.EdgeLaws.{length_with_edge}
 use Rattle.packed.proofs.PairLaws.{room_within}
 use Rattle.packed.specs.Inside.Bytes.{Bytes}
@@ -18,13 +25,14 @@ use Rattle.state.specs.Marks.{mark_bytes}
 use Rattle.state.specs.State.{graph, size, state, State}
 use Rattle.state.specs.Refusal.{Condition, refusal, touched}
 use Rattle.edits.proofs.EditLaws.{changed_is, renewing}
-use Rattle.edits.proofs.ListedLaws.{count_two, each_node, listed, listed_ends, listed_touched, node_below, stale_each_is}
+use Rattle.edits.proofs.ListedLaws.{count_two, each_node, listed, listed_ends, listed_touched, lists_by, near_ready, node_below, stale_each_is}
 use Rattle.edits.proofs.RenewalLaws.{renew_each_is}
-use Rattle.edits.specs.Inside.Change.{Appliable, changed, Editable, renewal_of, renewal_under, Renews, Steppable}
+use Rattle.edits.specs.Inside.Change.{Appliable, changed, Editable, renewal_of, Renews, Steppable}
 use Rattle.edits.specs.Edit.{edited}
 use Rattle.edits.specs.Inside.Renewal.{Renewable, renewal_by, renewed_by}
-use Rattle.edits.specs.Inside.Touched.{Lists, of_each, stale_each}
+use Rattle.edits.specs.Inside.Touched.{of_each, stale_each, touched_near}
 use Rattle.edits.specs.declared.renewal.Renewal.{Renewal}
+use Rattle.std.proofs.Common.{Ok}
 use Rattle.edits.specs.declared.touched.Touched.{Touched}
 
 taken_within : (on : Bool) {count : ℕ} → 2 ≤ count → cond on 2 count ≤ count
@@ -93,23 +101,29 @@ module _ {es edges' marks' : List ℕ} (marks : List ℕ) {n a b : ℕ} {on : Bo
       (λ p h. listed_touched e.listed p (omega arith)))
       ∙ sym (changed_is (state es figures marks) a b on)
 
-  pub applied : (cs : List Condition) → refusal cs ≡ 0 → Renews cs es marks n a b on r edges' marks'
-  unfolding renewal_under
+  pub applied : (cs : List Condition) → refusal cs ≡ 0 → Renews cs es marks n a b on (Ok r) edges' marks'
   applied cs z = record {
-    answer = renewal_is e q ∙ sym (rw z);
-    ready = renew_ready e q;
-    whole = λ figures l. rw (ap (λ x. x.refusal) q) (accepted_is cs (state es figures marks) _ z (changed_by_lem figures l refl));
+    answer = sym z;
+    ready = (renewal_is e q, renew_ready e q);
+    whole = λ figures l. accepted_is cs (state es figures marks) _ z (changed_by_lem figures l refl);
   }
 
 -- ---- where no node's edges refuse it
 
-pub step_ready : {s : State} {a b : ℕ} {on : Bool} → Steppable s a b on → {t : Touched} → Lists (graph s) (size s) a b t
-    → Editable s.edges (size s) a b on t
-step_ready p {t} l =
-    let below = node_below l p.pair.first_below p.pair.second_below in
-    record {
-      pair = p.pair;
-      listed = l;
-      few_before = λ i h. p.few_before (get_or t.nodes i 0) (below i h);
-      few_after = λ i h. p.few_after (get_or t.nodes i 0) (below i h);
-    }
+module _ {s : State} {a b : ℕ} {on : Bool} (p : Steppable s a b on) {near : Neighbours} (e : near ≡ first_neighbours s.edges (size s) a) where
+  near_few : near.count ≤ limit
+  near_few = omega (arith, found_degree (found_of e), p.few_before a p.pair.first_below)
+
+  pub step_near : Ascending s.edges near.nodes near.count × (a < max_nodes) × Room (b + 1) s.edges
+  step_near = near_ready (found_of e) near_few p.pair.first_below p.pair.second_below p.pair.room
+
+  pub step_ready : {t : Touched} → t ≡ touched_near (graph s) (padded near.count near.nodes) a b → Editable s.edges (size s) a b on t
+  step_ready {t} q =
+      let l = lists_by (found_of e) near_few b q in
+      let below = node_below l p.pair.first_below p.pair.second_below in
+      record {
+        pair = p.pair;
+        listed = l;
+        few_before = λ i h. p.few_before (get_or t.nodes i 0) (below i h);
+        few_after = λ i h. p.few_after (get_or t.nodes i 0) (below i h);
+      }

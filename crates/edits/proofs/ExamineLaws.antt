@@ -2,7 +2,7 @@
 use mathlib.Core.Bool.{Bool, cond, false, true, true≢false}
 use mathlib.Core.List.{[], List, ◌∷◌}
 use mathlib.Core.Logic.{inl, inr}
-use mathlib.Core.Path.{ap, ap₂, refl, sym, ◌∙◌, ◌≡◌}
+use mathlib.Core.Path.{ap, refl, sym, ◌∙◌, ◌≡◌}
 use Prim.Native.Nat.{◌+◌, ◌<◌, ℕ, ◌≤◌}
 use native.Mathlib.Decide.{dec_lt, ℕ_discrete}
 use native.Mathlib.Omega.{arith}
@@ -25,9 +25,13 @@ use Rattle.state.proofs.TouchLaws.{touched_first}
 use Rattle.state.specs.Refusal.{Condition, crowded_after, ends, refusal, too_many, touched}
 use Rattle.edits.proofs.ListedLaws.{count_two, each-length, each_node, first_is, listed_ends, listed_touched, node_below, node_common, over_is, second_is}
 use Rattle.edits.specs.Inside.Change.{Changeable, crowding, Editable, Examines}
-use Rattle.edits.specs.Inside.Touched.{Lists, max_touched, none_touched, of_each}
-use Rattle.edits.specs.declared.examined.Examined.{Examined}
+use Rattle.edits.specs.Inside.Touched.{Lists, max_touched, of_each}
 use Rattle.edits.specs.declared.touched.Touched.{Touched}
+use Rattle.edits.proofs.NumberLaws.{number_one}
+use Rattle.state.proofs.AnswerLaws.{number_some}
+use Rattle.state.specs.Answers.{number}
+use Rattle.state.specs.declared.refusal.Refusal.{Refusal}
+use Rattle.std.proofs.Common.{Result, Ok, Err, IsErrAnd}
 
 module _ {es : List ℕ} {n a b : ℕ} {on : Bool} (c : Changeable es n a b on) where
   -- 11 where the first end has too many edges
@@ -149,20 +153,15 @@ module _ {es : List ℕ} {n a b : ℕ} {on : Bool} (c : Changeable es n a b on) 
             },
           )
 
--- a refused edit
-pub examines_refused : {cs : List Condition} {es : List ℕ} {n a b : ℕ} {on : Bool} {r : Examined} {x : ℕ} → x ≡ refusal cs → (x ≡ 0 → ⊥)
-    → r ≡ record { refusal = x; touching = none_touched } → Examines cs es n a b on r
-examines_refused e d q = record {
-  answer = ap (λ r. r.refusal) q ∙ e;
-  ready = λ z. absurd (d (sym (ap (λ r. r.refusal) q) ∙ z));
-  none = λ z. ap (λ r. r.touching) q;
-}
+-- an edit that `?` turns back
+module _ {cs : List Condition} {es : List ℕ} {n a b : ℕ} {on : Bool} where
+  pub examines_refused : (r : Result Touched Refusal) (x : Refusal) → number x ≡ refusal cs → IsErrAnd r (λ y. y ≡ x) → Examines cs es n a b on r
+  examines_refused (Ok t) x e h = absurd h
+  examines_refused (Err y) x e h = record { answer = ap number h ∙ e; ready = tt }
 
--- one answer meets what is promised of an examination
-pub examines_one : {cs : List Condition} {es : List ℕ} {n a b : ℕ} {on : Bool} {r r' : Examined} → Examines cs es n a b on r → Examines cs es n a b on r' → r ≡ r'
-examines_one {r = r} {r' = r'} h k =
-    let same : r.refusal ≡ r'.refusal = h.answer ∙ sym k.answer in
-    ap₂ {C = Examined} (λ x t. record { refusal = x; touching = t }) same (elim (ℕ_discrete r.refusal 0) [
-      | yes z ↦ (h.ready z).listed.all ∙ sym (k.ready (sym same ∙ z)).listed.all
-      | no d ↦ h.none d ∙ sym (k.none (λ z. d (same ∙ z)))
-    ])
+  -- one answer meets what is promised of an examination
+  pub examines_one : {r r' : Result Touched Refusal} → Examines cs es n a b on r → Examines cs es n a b on r' → r ≡ r'
+  examines_one {r = Ok t} {r' = Ok u} h k = ap Ok (h.ready.listed.all ∙ sym k.ready.listed.all)
+  examines_one {r = Ok t} {r' = Err y} h k = absurd (number_some y (sym (h.answer ∙ sym k.answer)))
+  examines_one {r = Err x} {r' = Ok u} h k = absurd (number_some x (h.answer ∙ sym k.answer))
+  examines_one {r = Err x} {r' = Err y} h k = ap Err (number_one x y (h.answer ∙ sym k.answer))

@@ -4,6 +4,7 @@ pub mod ExamineLaws
 pub mod HonestLaws
 pub mod ListedLaws
 pub mod NamedLaws
+pub mod NumberLaws
 pub mod RenewalLaws
 pub mod SameRefusal
 pub mod Sound

@@ -10,6 +10,12 @@ use Rattle.ego.specs.Graph.{Graph}
 use Rattle.calls.proofs.AcceptLaws.{passes}
 use Rattle.edits.specs.Edit.{add_conditions, remove_conditions}
 use Rattle.edits.specs.Inside.Change.{pair_conditions}
+use Rattle.state.proofs.AnswerLaws.{refused_by}
+use Rattle.state.specs.Answers.{number}
+use Rattle.state.specs.declared.refusal.Refusal.{Refusal}
+use Rattle.state.proofs.PairConditions.{pair_one}
+use Rattle.state.specs.Inside.Earlier.{TwoNodes}
+use Rattle.state.specs.Refusal.{pair_conditions as each_pair}
 use Rattle.state.proofs.RefusalLaws.{passed_absent, passed_after, passed_before, passed_node, passed_present, passed_same, refusal_none, refused_absent, refused_present}
 use Rattle.state.specs.Refusal.{Condition, edge_absent, edge_present, ends, node_number, refusal, same_nodes, too_many, touched}
 
@@ -41,6 +47,14 @@ module _ (n : ℕ) (g : Graph) (a b : ℕ) where
       let q = passes (node_number n b) _ (λ z. omega arith) r.1 in
       let t = passes (same_nodes a b) cs (λ z. omega arith) q.1 in
       (leb-false n a r.0, leb-false n b q.0, eqb-false a b t.0, t.1)
+
+  -- 4 and 5 of the pair, before the others
+  pub named_refused : (cs : List Condition) (r : Refusal) → number r ≡ refusal (each_pair n ((a, b) ∷ []))
+      → number r ≡ refusal (node_number n a ∷ node_number n b ∷ same_nodes a b ∷ cs)
+  named_refused cs r e = refused_by (node_number n a ∷ node_number n b ∷ same_nodes a b ∷ []) cs r (e ∙ pair_one n a b)
+
+  pub named_by : 0 ≡ refusal (each_pair n ((a, b) ∷ [])) → TwoNodes n a b
+  named_by e = let r = two_named [] (sym (e ∙ pair_one n a b)) in record { first = r.0; second = r.1; apart = r.2 }
 
   pub two_passed : (cs : List Condition) → a < n → b < n → a ≢ b → refusal (node_number n a ∷ node_number n b ∷ same_nodes a b ∷ cs) ≡ refusal cs
   two_passed cs ha hb d = passed_node _ n a ha ∙ passed_node _ n b hb ∙ passed_same cs a b d

@@ -8,7 +8,7 @@ use crate::limits::LIMIT;
 use packed::rows::{Row, append, row_of, words_for};
 
 // How many neighbours a node has, and the first of them, in order; 0 in the places past them.
-#[derive(Drop)]
+#[derive(Clone, Copy)]
 pub struct Neighbours {
     pub nodes: [u8; LIMIT],
     pub count: usize,

@@ -1,16 +1,21 @@
 -- Entries as records and in a row: the list of k entries, and the rows of numbers laid over entries that are lent. Assumes nothing.
-use mathlib.Core.Bool.{cond}
 use mathlib.Core.List.{◌++◌, [], append_assoc, append-nil, List, ◌∷◌}
 use mathlib.Core.Path.{ap, refl, subst, sym, ◌∙◌, ◌≡◌}
-use Prim.Native.Nat.{◌*◌, ◌+◌, ◌/◌, ◌<◌, min, suc, zero, zero-le, ℕ, ◌≤◌}
+use Prim.Native.Nat.{◌*◌, ◌+◌, ◌/◌, ◌<◌, min, suc, zero, ℕ, ◌≤◌}
 use native.Mathlib.Decide.{dec_lt, ℕ_discrete}
-use native.Mathlib.Nat.{le_refl}
+use native.Mathlib.Nat.{le_antisymm, le_refl}
+use native.Mathlib.Numerals.{add-one}
 use native.Mathlib.Omega.{arith}
-use borrow.Author.Tests.{eq-eqb, lt-ltb, ne_eqb}
-use lib.Dec.{eqb}
-use lib.ListN.{drop, get_or, length, length-set, set, take, take-append-drop}
+use borrow.Author.Tests.{lt-ltb, ne_eqb}
+use lib.ListN.{drop, get_or, length, length-append, length-set, set, take, take-append-drop}
 use lib.Seq.{drop-length, drop-set-lt, get_or-drop, length-take-le, take-suc-set}
 use Rattle.ego.specs.Score.{score}
+use Rattle.std.proofs.Common.{Result, Ok, Err, IsErrAnd}
+use Rattle.packed.specs.Pairs.{max_nodes}
+use Rattle.state.proofs.AnswerLaws.{number_some}
+use Rattle.state.specs.Answers as answer
+use Rattle.state.specs.Answers.{number, value_of}
+use Rattle.state.specs.declared.refusal.Refusal.{Refusal}
 use Rattle.state.proofs.RefusalLaws.{append_refused, Fitted}
 use Rattle.calls.proofs.AcceptLaws.{lengths_fit, lengths_pass}
 use Rattle.state.specs.Outcome.{lengths}
@@ -24,10 +29,15 @@ use Rattle.topk.proofs.ListLaws.{accepted_of, call_passed, call_refusal, call_ta
 use Rattle.topk.specs.List.{list_call, list_conditions, listing, Listed, list_of, wanted}
 use Rattle.listing.specs.Records.{entries_call}
 use Rattle.topk.specs.Inside.Layout.{entry_in}
-use Rattle.listing.specs.Inside.Table.{Gathered, laid, rows}
 use Rattle.topk.specs.Steps.{Progress}
-use Rattle.topk.specs.declared.list.Answer.{Answer}
-use Rattle.listing.specs.declared.records.Filled.{Filled}
+
+-- the entries that the numbers have room for: one more than there can be nodes
+abbrev pub rows : ℕ
+rows = max_nodes + 1
+
+-- the first m entries of a buffer over entries that are lent
+abbrev pub laid : ℕ → List ℕ → List Entry → List Entry
+laid m numbers entries = entries_of m numbers ++ drop m entries
 
 -- ---- entries in a row
 
@@ -126,58 +136,51 @@ module _ (s : State) (C : List ℕ) where
         ap (λ (l : Listed ℕ). over-records (entries_of (length xs) l.entries) l) (call_taken s C (flat xs) (length xs) (wanted_flat xs) z)
         ∙ ap (λ (ys : List Entry). over-records ys (accepted_of s C (length xs) (flat xs))) (kept_back (length xs) _ (most (length xs) z).0)
 
-  -- ---- the numbers of a list of k entries
+  -- ---- the list in the numbers: k entries, or as many as there is room for
 
-  module _ (k : ℕ) (N : List ℕ) (room : 2 * rows ≤ length N) {m : ℕ} (e : m ≡ min k rows) (a : Answer) (s' : State) (E' C' : List ℕ)
-      (h : listing a.refusal a.recomputed s' E' C' ≡ list_call s (take (2 * m) N) C) where
+  module _ (xs : List Entry) (N : List ℕ) (room : 2 * rows ≤ length N) {m : ℕ} (e : m ≡ min (length xs) rows) (s' : State) (E' C' : List ℕ) where
+    abbrev k : ℕ
+    k = length xs
+
     abbrev E : List ℕ
     E = take (2 * m) N
-
-    -- the numbers that are left
-    abbrev left : List ℕ
-    left = E' ++ drop (2 * m) N
-
-    abbrev filled : ℕ → Filled
-    filled used = record { answer = a; used = used }
 
     wants : wanted E ≡ min k rows
     wants = half (length E) (min k rows) (length-take-le (2 * m) N (omega arith) ∙ ap (λ (i : ℕ). 2 * i) e)
 
-    answers : a.refusal ≡ refusal_of s C k
-    answers = ap (λ (l : Listed ℕ). l.refusal) h ∙ call_refusal s C E ∙ ap (refusal_of s C) wants ∙ same_refusal k
+    refused_alike : (list_call s E C).refusal ≡ refusal_of s C k
+    refused_alike = call_refusal s C E ∙ ap (refusal_of s C) wants ∙ same_refusal k
 
-    gather_refused : (a.refusal ≡ 0 → ⊥) → Gathered s C k (filled 0) left s' C'
-    unfolding entries_of
-    gather_refused d = record {
-      fits = zero-le;
-      small = zero-le;
-      lists = λ xs l.
-          let f : refusal_of s C k ≡ 0 → ⊥ = λ z. d (answers ∙ z) in
-          ap (over-records xs) (h ∙ list_call_refused s C E (min k rows) wants (λ z. f (sym (same_refusal k) ∙ z)))
-          ∙ ap (λ (r : ℕ). listing r 0 s xs C) (same_refusal k ∙ ap (refusal_of s C) (sym l))
-          ∙ sym (entries_refused xs (λ z. f (ap (refusal_of s C) (sym l) ∙ z)));
-    }
+    -- a refusal that `?` hands on is the call's
+    pub gather_refused : (x : Result ℕ Refusal) (q : Refusal) → IsErrAnd x (λ r. r ≡ q) → listing (number q) 0 s' E' C' ≡ list_call s E C
+        → listing (answer.refusal_of x) (value_of x) s' xs C' ≡ entries_call s xs C
+    gather_refused (Ok v) q i h = absurd i
+    gather_refused (Err r) q i h =
+        let is : number q ≡ refusal_of s C k = ap (λ (l : Listed ℕ). l.refusal) h ∙ refused_alike in
+        let f : refusal_of s C k ≡ 0 → ⊥ = λ z. number_some q (is ∙ z) in
+        ap (λ (t : Refusal). listing (number t) 0 s' xs C') i
+        ∙ ap (over-records xs) (h ∙ list_call_refused s C E (min k rows) wants (λ z. f (sym (same_refusal k) ∙ z)))
+        ∙ ap (λ (r : ℕ). listing r 0 s xs C) (same_refusal k)
+        ∙ sym (entries_refused xs f)
 
-    gather_taken : a.refusal ≡ 0 → Gathered s C k (filled k) left s' C'
-    gather_taken z =
-        let f : refusal_of s C k ≡ 0 = sym answers ∙ z in
-        let t = most k f in
-        let w : wanted E ≡ k = omega (arith, wants) in
-        record {
-          fits = le_refl k;
-          small = omega arith;
-          lists = λ xs l.
-              ap (λ (p : Listed ℕ). over-records (laid k (p.entries ++ drop (2 * m) N) xs) p) (h ∙ call_taken s C E k w f)
-              ∙ ap (λ (ys : List Entry). over-records ys (accepted_of s C k E)) (laid_kept k xs l t.0 _ (drop (2 * m) N))
-              ∙ ap (λ (j : ℕ). over-records (run j).kept (accepted_of s C j [])) (sym l)
-              ∙ sym (entries_taken xs (ap (refusal_of s C) l ∙ f));
-        }
+    module _ {v : ℕ} (h : listing 0 v s' E' C' ≡ list_call s E C) where
+      accepted : refusal_of s C k ≡ 0
+      accepted = sym (ap (λ (l : Listed ℕ). l.refusal) h ∙ refused_alike)
 
-    pub gathers : {used : ℕ} → used ≡ cond (eqb a.refusal 0) k 0 → Gathered s C k (filled used) left s' C'
-    gathers u = elim (ℕ_discrete a.refusal 0) [
-      | yes z ↦ rw (u, eq-eqb a.refusal 0 z) (gather_taken z)
-      | no d ↦ rw (u, ne_eqb a.refusal 0 d) (gather_refused d)
-    ]
+      -- each entry has a row
+      pub gather_fits : length E' ≡ length E → {i : ℕ} → i < k → 2 * i + 1 < length (E' ++ drop (2 * m) N)
+      gather_fits same h =
+          let t = most k accepted in
+          omega (arith, length-append E' (drop (2 * m) N), length-take-le (2 * m) N (omega arith))
+
+      -- the numbers over the entries are what the call leaves
+      pub gather_taken : listing 0 v s' (laid k (E' ++ drop (2 * m) N) xs) C' ≡ entries_call s xs C
+      gather_taken =
+          let t = most k accepted in
+          let w : wanted E ≡ k = omega (arith, wants) in
+          ap (λ (p : Listed ℕ). over-records (laid k (p.entries ++ drop (2 * m) N) xs) p) (h ∙ call_taken s C E k w accepted)
+          ∙ ap (λ (ys : List Entry). over-records ys (accepted_of s C k E)) (laid_kept k xs refl t.0 _ (drop (2 * m) N))
+          ∙ sym (entries_taken xs accepted)
 
 -- ---- the rows of numbers, laid over the entries one by one
 
@@ -205,8 +208,18 @@ unfolding upto
 behind numbers xs k zero l = refl
 behind numbers xs k (suc j) l = drop-set-lt k (upto numbers xs j) j (entry_in numbers j) l ∙ behind numbers xs k j (omega arith)
 
-pub upto_laid : (numbers : List ℕ) (xs : List Entry) (i : ℕ) → i ≤ length xs → upto numbers xs i ≡ laid i numbers xs
+upto_laid : (numbers : List ℕ) (xs : List Entry) (i : ℕ) → i ≤ length xs → upto numbers xs i ≡ laid i numbers xs
 upto_laid numbers xs i l =
     sym (take-append-drop i (upto numbers xs i))
     ∙ ap (λ (t : List Entry). t ++ drop i (upto numbers xs i)) (upto_take numbers xs i l)
     ∙ ap (λ (t : List Entry). entries_of i numbers ++ t) (behind numbers xs i i (le_refl i))
+
+-- all of them
+pub all_laid : (numbers : List ℕ) (xs : List Entry) {E : List Entry} {i : ℕ} → E ≡ upto numbers xs i → i ≤ length xs → length xs ≤ i → E ≡ laid (length xs) numbers xs
+all_laid numbers xs e l g = e ∙ ap (upto numbers xs) (le_antisymm l g) ∙ upto_laid numbers xs (length xs) (le_refl (length xs))
+
+-- one more
+pub one_laid : (numbers : List ℕ) (xs : List Entry) (i : ℕ) {E : List Entry} {r : Entry} → E ≡ upto numbers xs i → r ≡ entry_in numbers i
+    → set E i r ≡ upto numbers xs (i + 1)
+unfolding upto
+one_laid numbers xs i e d = rw (add-one, e, d)

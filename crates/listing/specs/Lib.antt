@@ -1,3 +1,2 @@
 -- The list over records.
 pub mod Records
-pub mod Inside

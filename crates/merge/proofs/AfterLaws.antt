@@ -1,7 +1,7 @@
 -- The degrees after the call, corrected pair by pair from those before it: they are those of the merged graph. Assumes nothing.
 use mathlib.Core.Bool.{Bool, false, not, true}
 use mathlib.Core.List.{List}
-use mathlib.Core.Logic.{inl, inr, ◌≢◌}
+use mathlib.Core.Logic.{inl, inr}
 use mathlib.Core.Path.{ap, refl, ◌∙◌, ◌≡◌}
 use Prim.Native.Nat.{◌+◌, ◌<◌, ℕ}
 use native.Mathlib.Omega.{arith}
@@ -20,6 +20,7 @@ use Rattle.packed.proofs.PairLaws.{room_within}
 use Rattle.packed.proofs.ShiftLaws.{shiftable, shifted_degrees}
 use Rattle.packed.specs.Bits.{differ}
 use Rattle.packed.specs.Edges.{edge}
+use Rattle.packed.specs.Pairs.{pair_count}
 use Rattle.packed.specs.Inside.Room.{Room}
 use Rattle.packed.specs.Inside.Degrees.{degrees_of}
 use Rattle.edits.proofs.EditLaws.{edit_pair}
@@ -33,14 +34,21 @@ use Rattle.merge.proofs.WalkLaws.{over_to, walk_end, walk_next, walk_start, walk
 use Rattle.merge.specs.Reconcile.{merged, takes}
 use Rattle.merge.specs.declared.changed.Pair.{Pair}
 use Rattle.merge.specs.Inside.Steps.{Correctable, corrects, merged_edges, settled}
-use Rattle.merge.specs.Inside.Walk.{NextPair, Place}
+use Rattle.merge.specs.Inside.Walk.{FirstChanged, NextPair, Place}
 
 -- the edges have room for n nodes, and are those of g
 record HasEdges (n : ℕ) (g : Graph) (es : List ℕ) : Type 0 where
   pub room : Room n es
   pub links : Agree n (edge es) g
 
+-- the degrees on the way, before the place a, b
+abbrev pub degrees_on_way : List ℕ → List ℕ → List ℕ → ℕ → ℕ → ℕ → List ℕ
+degrees_on_way mine theirs base n a b = degrees_of (over_to (settled (edge mine) (edge theirs) (edge base)) a b mine) n
+
 module _ (mine theirs base : List ℕ) (n : ℕ) (room : Room n mine) where
+  abbrev on_way_to : ℕ → ℕ → List ℕ
+  on_way_to = degrees_on_way mine theirs base n
+
   abbrev result : Graph
   result = merged (edge mine) (edge theirs) (edge base)
 
@@ -88,25 +96,22 @@ module _ (mine theirs base : List ℕ) (n : ℕ) (room : Room n mine) where
 
   -- ---- the degrees on the way, before the place a, b, and the next pair that theirs has changed
 
-  abbrev pub degrees_on_way : ℕ → ℕ → List ℕ
-  degrees_on_way a b = degrees_of (over_to settles a b mine) n
-
-  pub corrected_first : {degrees : List ℕ} → degrees ≡ degrees_of mine n → degrees ≡ degrees_on_way 0 0
+  pub corrected_first : {degrees : List ℕ} → degrees ≡ degrees_of mine n → degrees ≡ on_way_to 0 0
   corrected_first e = e ∙ ap (λ es. degrees_of es n) (walk_start settles theirs base idle mine)
 
-  module _ {a b : ℕ} {r : Pair} {degrees : List ℕ} (p : Place n a b) (f : NextPair theirs base n a b r) (e : degrees ≡ degrees_on_way a b) where
-    at_next : degrees ≡ degrees_on_way r.a r.b
-    at_next = e ∙ ap (λ es. degrees_of es n) (walk_next settles theirs base idle mine p f refl)
+  module _ {a b : ℕ} {degrees : List ℕ} (p : Place n a b) (e : degrees ≡ on_way_to a b) where
+    pub corrected_all : FirstChanged theirs base n a b (pair_count n) → degrees ≡ degrees_of (merged_edges mine theirs base n) n
+    corrected_all f = e ∙ ap (λ es. degrees_of es n) (walk_end settles theirs base idle mine p f refl)
 
-    pub corrected_all : r.b ≡ n → degrees ≡ degrees_of (merged_edges mine theirs base n) n
-    corrected_all q = e ∙ ap (λ es. degrees_of es n) (walk_end settles theirs base idle mine p f q refl)
+    module _ {r : Pair} (f : NextPair theirs base n a b r) where
+      at_next : degrees ≡ on_way_to r.a r.b
+      at_next = e ∙ ap (λ es. degrees_of es n) (walk_next settles theirs base idle mine p f refl)
 
-    module _ (q : r.b ≢ n) where
       h : r.a < r.b
-      h = (f.found q).0
+      h = f.below
 
       l : r.b < n
-      l = (f.found q).1
+      l = f.inside
 
       pub correctable : Room n theirs → Room n base → Correctable mine theirs base degrees r.a r.b
       correctable u v = record {
@@ -127,7 +132,7 @@ module _ (mine theirs base : List ℕ) (n : ℕ) (room : Room n mine) where
         | inr t ↦ (rw t at g) ∙ at_next ∙ rw t refl
       ]
 
-      pub corrected_next : {next : List ℕ} → next ≡ corrects mine theirs base r.a r.b degrees → next ≡ degrees_on_way (r.a + 1) r.b
+      pub corrected_next : {next : List ℕ} → next ≡ corrects mine theirs base r.a r.b degrees → next ≡ on_way_to (r.a + 1) r.b
       corrected_next g = settles_one g ∙ ap (λ es. degrees_of es n) (walk_step settles theirs base idle mine r.a r.b refl refl)
 
   -- ---- at the end

@@ -1,14 +1,14 @@
 -- The pairs in conflict by their bits, and the first of them. Assumes nothing.
-use mathlib.Core.Bool.{◌&&◌, ◌||◌, Bool, false, not, true, true≢false}
+use mathlib.Core.Bool.{◌&&◌, ◌||◌, Bool, false, true, true≢false}
 use mathlib.Core.List.{List}
-use mathlib.Core.Logic.{inl, inr, ◌≢◌}
+use mathlib.Core.Logic.{inl, inr}
 use mathlib.Core.Path.{ap, refl, sym, ◌∙◌, ◌≡◌}
 use Prim.Native.Nat.{◌*◌, ◌+◌, ◌-◌, ◌<◌, suc, zero-le, ℕ}
-use native.Mathlib.Decide.{dec_lt, ℕ_discrete}
+use native.Mathlib.Decide.{dec_lt}
 use native.Mathlib.Omega.{arith}
-use borrow.Author.Tests.{eq-eqb, ne_eqb}
 use lib.Bits.{bit_and, bit_or, bit_xor}
-use lib.Dec.{eqb}
+use Rattle.std.proofs.Common.{Option, Some, None}
+use Rattle.std.specs.Option.{is_some}
 use Rattle.arith.proofs.Tests.{and-false, test}
 use Rattle.arith.proofs.Words.{bit-and, bit-or}
 use Rattle.packed.proofs.FirstLaws.{bit-xor, differ_same, word_has_bits}
@@ -18,12 +18,12 @@ use Rattle.packed.proofs.RowLaws.{edge_above}
 use Rattle.packed.specs.Bits.{bit_at, differ, run_of}
 use Rattle.packed.specs.Edges.{edge}
 use Rattle.packed.specs.Pairs.{any_pair, pair_count}
-use Rattle.packed.specs.Inside.Search.{FirstFrom, WordHas}
+use Rattle.packed.specs.Inside.Search.{FirstFrom, FirstIn, WordHas}
+use Rattle.state.specs.Answers.{Nowhere}
 use Rattle.merge.proofs.BitOrder.{first_passes, none_passes}
 use Rattle.merge.specs.Pinned.{Brought, conflict, in_conflict, spoken}
-use Rattle.merge.specs.Conflict.{conflicts, first_of}
+use Rattle.merge.specs.Conflict.{between, conflicts, first_of}
 use Rattle.merge.specs.declared.changed.Pair.{Pair}
-use Rattle.merge.specs.declared.conflict.Conflict.TheVariants.{Between, NoConflict}
 use Rattle.merge.specs.Inside.Bitwise.{conflict_bit}
 use Rattle.merge.specs.Inside.Walk.{PairAt}
 
@@ -80,43 +80,43 @@ module _ (mine : List ℕ) (k : Brought) where
       says a b
       ∙ rw (edge_above mine a b h, edge_above k.pins a b h, edge_above k.theirs a b h, edge_above k.their_pins a b h, edge_above k.base a b h)
 
-  module _ (n : ℕ) {r : ℕ} (f : FirstFrom (conflict_bit mine k) 0 (pair_count n) r) where
-    pub lower_none : (a b : ℕ) → a < b → pair_count b + a < r → in_conflict (edge mine) k a b ≡ false
-    lower_none a b h l = conflict_is a b h ∙ f.none (pair_count b + a) zero-le l
-
+  module _ (n : ℕ) where
     pair_below : (a b : ℕ) → a < b → b < n → pair_count b + a < pair_count n
     pair_below a b h l = omega (arith, pairs_suc b, pairs_mono {m = suc b} {n = n} l)
 
-    pub none_there : r ≡ pair_count n → (a b : ℕ) → a < b → b < n → in_conflict (edge mine) k a b ≡ false
-    none_there e a b h l = lower_none a b h (omega (arith, pair_below a b h l))
+    -- from where the search ends
+    module _ {r : ℕ} (f : FirstFrom (conflict_bit mine k) 0 (pair_count n) r) where
+      pub lower_none : (a b : ℕ) → a < b → pair_count b + a < r → in_conflict (edge mine) k a b ≡ false
+      lower_none a b h l = conflict_is a b h ∙ f.none (pair_count b + a) zero-le l
 
-    -- the pair of the bit, where it is one of n nodes
-    module _ (d : r ≢ pair_count n) {p : Pair} (at : PairAt r 0 p) where
-      inside : p.b < n
-      inside = elim (dec_lt p.b n) [ yes l ↦ l | no l ↦ absurd (omega (arith, f.stop, at.bit, pairs_mono {m = n} {n = p.b} (omega arith))) ]
+      -- the pair of the bit, where it is one of n nodes
+      module _ (l : r < pair_count n) {p : Pair} (at : PairAt r 0 p) where
+        inside : p.b < n
+        inside = elim (dec_lt p.b n) [ yes h ↦ h | no h ↦ absurd (omega (arith, at.bit, pairs_mono {m = n} {n = p.b} (omega arith))) ]
 
-      pub here : in_conflict (edge mine) k p.a p.b ≡ true
-      here = conflict_is p.a p.b at.below ∙ ap (conflict_bit mine k) at.bit ∙ f.some (omega (arith, f.stop))
+        pub here : in_conflict (edge mine) k p.a p.b ≡ true
+        here = conflict_is p.a p.b at.below ∙ ap (conflict_bit mine k) at.bit ∙ f.some l
 
-    -- whether some pair is in conflict, from where the search ends
-    pub any_by : not (eqb r (pair_count n)) ≡ any_pair (in_conflict (edge mine) k) n
-    any_by = elim (ℕ_discrete r (pair_count n)) [
-      | yes e ↦ rw (eq-eqb r (pair_count n) e) (sym (no_pair (in_conflict (edge mine) k) n (none_there e)))
-      | no d ↦
-          let p = pair_onto n r (omega (arith, f.stop)) in
-          let at : PairAt r 0 (record { a = p.0; b = p.1 }) =
-          record { onward = zero-le; below = p.2; bit = sym (pair_less p.0 p.1 p.2) ∙ p.4 } in
-          rw (ne_eqb r (pair_count n) d) (sym (pair_here (in_conflict (edge mine) k) n p.0 p.1 p.2 p.3 (here d at)))
-    ]
+        pub answers_pair : between p.a p.b ≡ first_of (conflicts mine n k)
+        unfolding first_of conflicts
+        answers_pair =
+            let q = first_passes (in_conflict (edge mine) k) n p.a p.b at.below inside here (λ x y h m. lower_none x y h (omega (arith, at.bit))) in
+            sym (ap first_of q.1)
 
-    -- the answer
-    pub answers_none : r ≡ pair_count n → NoConflict ≡ first_of (conflicts mine n k)
-    unfolding first_of conflicts
-    answers_none e = sym (ap first_of (none_passes (in_conflict (edge mine) k) n (none_there e)))
+    -- from a search that finds none
+    module _ (f : FirstFrom (conflict_bit mine k) 0 (pair_count n) (pair_count n)) where
+      pub none_there : (a b : ℕ) → a < b → b < n → in_conflict (edge mine) k a b ≡ false
+      none_there a b h l = lower_none f a b h (pair_below a b h l)
 
-    pub answers_pair : (d : r ≢ pair_count n) {p : Pair} → PairAt r 0 p → Between p.a p.b ≡ first_of (conflicts mine n k)
-    unfolding first_of conflicts
-    answers_pair d {p} at =
-        let q = first_passes (in_conflict (edge mine) k) n p.a p.b at.below (inside d at) (here d at)
-        (λ x y h l. lower_none x y h (omega (arith, at.bit))) in
-        sym (ap first_of q.1)
+      pub answers_none : Nowhere ≡ first_of (conflicts mine n k)
+      unfolding first_of conflicts
+      answers_none = sym (ap first_of (none_passes (in_conflict (edge mine) k) n none_there))
+
+    -- whether some pair is in conflict
+    pub any_by : (o : Option ℕ) → FirstIn (conflict_bit mine k) 0 (pair_count n) o → is_some o ≡ any_pair (in_conflict (edge mine) k) n
+    any_by (Some r) f =
+        let p = pair_onto n r f.1 in
+        let at : PairAt r 0 (record { a = p.0; b = p.1 }) =
+        record { onward = zero-le; below = p.2; bit = sym (pair_less p.0 p.1 p.2) ∙ p.4 } in
+        sym (pair_here (in_conflict (edge mine) k) n p.0 p.1 p.2 p.3 (here f.0 f.1 at))
+    any_by None f = sym (no_pair (in_conflict (edge mine) k) n (none_there f))

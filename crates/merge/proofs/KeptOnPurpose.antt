@@ -27,11 +27,10 @@ use Rattle.merge.proofs.FirstConflict.{lowest_back, lowest_forth, none_back, non
 use Rattle.merge.proofs.LengthLaws.{brought_long, brought_rest, Long}
 use Rattle.merge.proofs.Overruled.{in_conflict_lem, overruled, unconfirmed}
 use Rattle.merge.proofs.PinLaws.{accepted_none, none_anywhere, same_call}
-use Rattle.merge.specs.Conflict.{conflict_call, conflict_conditions}
+use Rattle.merge.specs.Conflict.{between, conflict_call, conflict_conditions}
 use Rattle.merge.specs.KeptOnPurpose.{first_conditions, KeptOnPurpose, NothingPinned, Overruled}
 use Rattle.merge.specs.Pinned.{Brought, in_conflict, pinned_call, reconciled_pinned, stands}
 use Rattle.merge.specs.Reconcile.{merged, reconcile_call, reconcile_conditions, reconciled}
-use Rattle.merge.specs.declared.conflict.Conflict.TheVariants.{Between}
 
 -- ---- the answers of a reconcile with pins
 
@@ -151,12 +150,12 @@ module _ (s : State) (k : Brought) (z : refusal (first_conditions s k) ≡ 0) wh
   seen : refusal (conflict_conditions s.edges (size s) k) ≡ 0
   seen = lengths_none s.edges (size s) k (fit s k z).sizes (brought_rest (size s) k [] (long s k z).0 ∙ refusal_none)
 
-  shown_forth : (a : ℕ) × (b : ℕ) × (conflict_call s.edges (size s) k ≡ Between a b) → (pinned_call s k).refusal ≡ 15
+  shown_forth : (a : ℕ) × (b : ℕ) × (conflict_call s.edges (size s) k ≡ between a b) → (pinned_call s k).refusal ≡ 15
   shown_forth h =
       let l = lowest_forth s.edges (size s) k seen h.0 h.1 h.2 in
       turns_back s k z (pair_here (in_conflict (graph s) k) (size s) h.0 h.1 l.below l.inside l.here)
 
-  shown_back : (pinned_call s k).refusal ≡ 15 → (a : ℕ) × (b : ℕ) × (conflict_call s.edges (size s) k ≡ Between a b)
+  shown_back : (pinned_call s k).refusal ≡ 15 → (a : ℕ) × (b : ℕ) × (conflict_call s.edges (size s) k ≡ between a b)
   shown_back e = some_back s.edges (size s) k seen (turned_by s k z e)
 
 -- KEPT ON PURPOSE

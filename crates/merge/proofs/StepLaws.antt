@@ -1,12 +1,11 @@
 -- One pair of a reconcile: what is decided of it, what its step requires, and what the step keeps. Assumes nothing.
 use mathlib.Core.Bool.{◌&&◌, Bool, beq, false, not, or-true, true, true≢false}
 use mathlib.Core.List.{List}
-use mathlib.Core.Logic.{inl, inr, ◌≢◌}
+use mathlib.Core.Logic.{inl, inr}
 use mathlib.Core.Path.{ap, refl, sym, ◌∙◌, ◌≡◌}
 use Prim.Native.Nat.{◌+◌, ◌<◌, max, ℕ, ◌≤◌}
 use native.Mathlib.Nat.{le_trans}
 use native.Mathlib.Omega.{arith}
-use borrow.Author.Tests.{not-false}
 use lib.ListN.{length}
 use Rattle.arith.proofs.Tests.{and-true, test}
 use Rattle.ego.proofs.FoundLaws.{simple_edges}
@@ -19,6 +18,7 @@ use Rattle.packed.proofs.EdgeLaws.{length_with_edge}
 use Rattle.packed.proofs.PairLaws.{room_within}
 use Rattle.packed.specs.Bits.{differ}
 use Rattle.packed.specs.Edges.{edge, with_edge}
+use Rattle.packed.specs.Pairs.{pair_count}
 use Rattle.packed.specs.Inside.Room.{Room}
 use Rattle.edits.proofs.EditLaws.{changed_is, edit_pair, edited_marks, edited_size}
 use Rattle.edits.specs.Edit.{edited}
@@ -26,16 +26,23 @@ use Rattle.edits.specs.Inside.Change.{changed, Steppable}
 use Rattle.state.specs.State.{graph, size, State}
 use Rattle.merge.specs.Reconcile.{takes}
 use Rattle.merge.specs.Inside.Steps.{all_stepped, cap, Ready, stepped}
-use Rattle.merge.specs.Inside.Walk.{NextPair, Place}
+use Rattle.merge.specs.Inside.Walk.{FirstChanged, NextPair, Place}
 use Rattle.merge.specs.declared.changed.Pair.{Pair}
 use Rattle.merge.proofs.WalkLaws.{over_to, place_first, place_next, walk_end, walk_next, walk_start, walk_step}
 
 -- ---- one pair: theirs, the original, mine
 
+apart_differ : (x y : Bool) → not (beq x y) ≡ differ x y
+apart_differ true true = refl
+apart_differ true false = refl
+apart_differ false true = refl
+apart_differ false false = refl
+
 module _ (mine theirs base : Graph) (a b : ℕ) where
-  pub takes_is : {t o : Bool} → theirs a b ≡ t → base a b ≡ o → takes mine theirs base a b ≡ (differ t o && differ t (mine a b))
+  -- as code decides it
+  pub takes_by : {t o m : Bool} → t ≡ theirs a b → o ≡ base a b → m ≡ mine a b → takes mine theirs base a b ≡ (not (beq t o) && not (beq t m))
   unfolding takes
-  takes_is e f = rw (e, f)
+  takes_by {t} {o} {m} e f g = rw (← e, ← f, ← g, apart_differ t o, apart_differ t m) refl
 
   pub unchanged_stays : differ (theirs a b) (base a b) ≡ false → takes mine theirs base a b ≡ false
   unfolding takes
@@ -58,14 +65,14 @@ module _ (on : Bool) (theirs base : Graph) (a b : ℕ) (s : State) where
   untaken e = rw e
 
   -- where it takes theirs: by whether theirs has it
-  module _ {took there : Bool} (e : took ≡ takes (graph s) theirs base a b) (f : not took ≡ false) (h : there ≡ theirs a b) where
+  module _ (e : takes (graph s) theirs base a b ≡ true) {there : Bool} (h : there ≡ theirs a b) where
     pub step_stays : beq there on ≡ false → s ≡ stepped on theirs base a b s
     unfolding stepped
-    step_stays k = rw (← e, not-false took f, ← h, k)
+    step_stays k = rw (e, ← h, k)
 
     pub step_changes : {t : State} → beq there on ≡ true → t ≡ changed s a b on → t ≡ stepped on theirs base a b s
     unfolding stepped
-    step_changes k q = rw (← e, not-false took f, ← h, k) q
+    step_changes k q = rw (e, ← h, k) q
 
 pub beq_same : (x y : Bool) → beq x y ≡ true → x ≡ y
 beq_same true true e = refl
@@ -173,19 +180,19 @@ module _ (on : Bool) (theirs base : List ℕ) (s : State) where
     stands = walk_start (stepped on (edge theirs) (edge base)) theirs base idle s;
   }
 
-  module _ {t : State} {a b : ℕ} {r : Pair} (w : StepsTaken on theirs base s t a b) (f : NextPair theirs base (size s) a b r) where
-    pub taken_all : r.b ≡ size s → t ≡ all_stepped on theirs base s
-    taken_all q = walk_end (stepped on (edge theirs) (edge base)) theirs base idle s w.place f q w.stands
+  module _ {t : State} {a b : ℕ} (w : StepsTaken on theirs base s t a b) where
+    pub taken_all : FirstChanged theirs base (size s) a b (pair_count (size s)) → t ≡ all_stepped on theirs base s
+    taken_all f = walk_end (stepped on (edge theirs) (edge base)) theirs base idle s w.place f w.stands
 
-    pub taken_next : {u : State} → r.b ≢ size s
-        → length u.edges ≡ length t.edges → size u ≡ size t → length u.marks ≡ length t.marks
-        → u ≡ stepped on (edge theirs) (edge base) r.a r.b t → StepsTaken on theirs base s u (r.a + 1) r.b
-    taken_next q x y z e = record {
-      place = place_next f q;
-      edges_kept = x ∙ w.edges_kept;
-      nodes_kept = y ∙ w.nodes_kept;
-      marks_kept = z ∙ w.marks_kept;
-      ready = ready_kept on theirs base r.a r.b w.ready (f.found q).0 (omega (arith, w.nodes_kept, (f.found q).1)) e;
-      stands = walk_step (stepped on (edge theirs) (edge base)) theirs base idle s r.a r.b
-          (walk_next (stepped on (edge theirs) (edge base)) theirs base idle s w.place f w.stands) e;
-    }
+    module _ {r : Pair} (f : NextPair theirs base (size s) a b r) where
+      pub taken_next : {u : State} → length u.edges ≡ length t.edges → size u ≡ size t → length u.marks ≡ length t.marks
+          → u ≡ stepped on (edge theirs) (edge base) r.a r.b t → StepsTaken on theirs base s u (r.a + 1) r.b
+      taken_next x y z e = record {
+        place = place_next f;
+        edges_kept = x ∙ w.edges_kept;
+        nodes_kept = y ∙ w.nodes_kept;
+        marks_kept = z ∙ w.marks_kept;
+        ready = ready_kept on theirs base r.a r.b w.ready f.below (omega (arith, w.nodes_kept, f.inside)) e;
+        stands = walk_step (stepped on (edge theirs) (edge base)) theirs base idle s r.a r.b
+            (walk_next (stepped on (edge theirs) (edge base)) theirs base idle s w.place f w.stands) e;
+      }

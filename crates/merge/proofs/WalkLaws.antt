@@ -1,21 +1,21 @@
 -- A walk over the pairs that theirs has changed, in bit order: what lies between them is passed over. Assumes nothing.
 use mathlib.Core.Bool.{false}
 use mathlib.Core.List.{List}
-use mathlib.Core.Logic.{◌≢◌}
 use mathlib.Core.Path.{ap, refl, sym, ◌∙◌, ◌≡◌}
 use Prim.Native.Nat.{◌+◌, ◌<◌, suc, zero, zero-le, ℕ, ◌≤◌}
 use native.Mathlib.Decide.{dec_lt, ℕ_discrete}
-use native.Mathlib.Nat.{add-zero}
 use native.Mathlib.Numerals.{add-one}
 use native.Mathlib.Omega.{arith}
 use Rattle.packed.proofs.PairLaws.{pairs_mono, pairs_suc}
 use Rattle.packed.proofs.RowLaws.{edge_above}
 use Rattle.packed.specs.Bits.{bit_at, differ}
 use Rattle.packed.specs.Edges.{edge}
-use Rattle.packed.specs.Pairs.{max_nodes, pair_count}
-use Rattle.packed.specs.Inside.Search.{FirstFrom}
+use Rattle.packed.specs.Pairs.{pair_count}
 use Rattle.merge.specs.Reconcile.{over_pairs, over_row}
-use Rattle.merge.specs.Inside.Walk.{NextPair, PairAt, Place}
+use Rattle.merge.specs.Inside.Walk.{FirstChanged, NextPair, PairAt, Place}
+use Rattle.merge.specs.Inside.Pairs.{Gave, WalksOn}
+use Rattle.merge.specs.declared.brought.Changes.{Changes}
+use Rattle.merge.specs.declared.changed.ChangedPairs.{ChangedPairs}
 use Rattle.merge.specs.declared.changed.Pair.{Pair}
 
 -- a change at the rows before b and the first a pairs of b
@@ -23,12 +23,6 @@ abbrev pub over_to : {A : Type 0} → (ℕ → ℕ → A → A) → ℕ → ℕ 
 over_to change a b x = over_row change b a (over_pairs change b x)
 
 -- ---- the row of a bit
-
-pub next_row_within : {row start i : ℕ} → row ≤ max_nodes → start ≡ pair_count row → start + row ≤ i → i < pair_count max_nodes → row + 1 ≤ max_nodes
-next_row_within {row} h e l k = elim (dec_lt row max_nodes) [
-  | yes m ↦ omega arith
-  | no m ↦ let q : row ≡ max_nodes = omega arith in absurd (omega (arith, ap pair_count q))
-]
 
 pub row_after : (row : ℕ) {start : ℕ} → start ≡ pair_count row → start + row ≡ pair_count (row + 1)
 row_after row e = rw add-one (omega (arith, pairs_suc row))
@@ -39,34 +33,41 @@ pub place_first : (n : ℕ) → Place n 0 0
 place_first n = record { few = zero-le; low = zero-le; bits = omega (arith, pairs_mono {m = 0} {n = n} zero-le) }
 
 -- the place after the next pair
-pub place_next : {theirs base : List ℕ} {n a b : ℕ} {r : Pair} → NextPair theirs base n a b r → r.b ≢ n → Place n (r.a + 1) r.b
-place_next {n = n} {r = r} f q =
-    let k = f.found q in
-    let m : suc r.b ≤ n = k.1 in
-    record { few = omega (arith, k.1); low = omega (arith, k.0); bits = omega (arith, k.0, pairs_suc r.b, pairs_mono m) }
+pub place_next : {theirs base : List ℕ} {n a b : ℕ} {r : Pair} → NextPair theirs base n a b r → Place n (r.a + 1) r.b
+place_next {n = n} {r = r} f =
+    let m : suc r.b ≤ n = f.inside in
+    record { few = omega (arith, f.inside); low = omega (arith, f.below); bits = omega (arith, f.below, pairs_suc r.b, pairs_mono m) }
 
 -- the bits of the row of b are its pairs with the nodes below it
 row_bit : (theirs base : List ℕ) (a b : ℕ) → a < b
     → differ (edge theirs a b) (edge base a b) ≡ differ (bit_at theirs (pair_count b + a)) (bit_at base (pair_count b + a))
 row_bit theirs base a b h = rw (edge_above theirs a b h, edge_above base a b h)
 
--- ---- the next pair, from the next bit
+-- the next pair, from the next bit
+pub next_some : (theirs base : List ℕ) {n a b i : ℕ} {r : Pair} → FirstChanged theirs base n a b i → i < pair_count n → PairAt i b r → NextPair theirs base n a b r
+next_some theirs base {n} {r = r} f l p = record {
+  onward = p.onward;
+  below = p.below;
+  inside = elim (dec_lt r.b n) [ yes k ↦ k | no k ↦ absurd (omega (arith, p.bit, pairs_mono {m = n} {n = r.b} (omega arith))) ];
+  first = rw p.bit f;
+}
 
-module _ (theirs base : List ℕ) {n a b start end i : ℕ} (e : start ≡ pair_count b) (d : end ≡ pair_count n)
-    (f : FirstFrom (λ k. differ (bit_at theirs k) (bit_at base k)) (start + a) end i) where
-  pub next_none : b ≤ n → i ≡ end → NextPair theirs base n a b (record { a = 0; b = n })
-  next_none h q = record { onward = h; found = λ k. absurd (k refl); ended = λ k. refl; first = rw (add-zero, ← d, ← e) (rw q at f) }
+-- ---- the iterator, which walks over the changes of n nodes
 
-  pub next_some : {r : Pair} → i ≢ end → PairAt i b r → NextPair theirs base n a b r
-  next_some {r} q p = record {
-    onward = p.onward;
-    found = λ k. (p.below, within);
-    ended = λ k. absurd (omega (arith, within));
-    first = rw (p.bit, ← d, ← e) f;
-  }
-    where
-      within : r.b < n
-      within = elim (dec_lt r.b n) [ yes k ↦ k | no k ↦ absurd (omega (arith, f.stop, p.bit, pairs_mono {m = n} {n = r.b} (omega arith))) ]
+module _ {changes : Changes} {n : ℕ} {s : ChangedPairs} (w : WalksOn changes n s) where
+  pub place_of : Place n s.a s.b
+  place_of = rw w.nodes at s.walks.0
+
+  pub ended : FirstChanged s.changes.theirs.now s.changes.base.now s.n s.a s.b (pair_count s.n)
+      → FirstChanged changes.theirs.now changes.base.now n s.a s.b (pair_count n)
+  ended f = rw (w.same, w.nodes) at f
+
+  module _ {r : Pair} {t : ChangedPairs} (g : Gave s r t) where
+    pub next_of : NextPair changes.theirs.now changes.base.now n s.a s.b r
+    next_of = rw (w.same, w.nodes) at g.next
+
+    pub walks_next : WalksOn changes n t
+    walks_next = record { same = g.same.same ∙ w.same; nodes = g.same.nodes ∙ w.nodes }
 
 -- ---- the walk
 
@@ -74,10 +75,10 @@ module _ (theirs base : List ℕ) {n a b start end i : ℕ} (e : start ≡ pair_
 module _ {A : Type 0} (change : ℕ → ℕ → A → A) (theirs base : List ℕ)
     (idle : (a b : ℕ) → differ (edge theirs a b) (edge base a b) ≡ false → (x : A) → change a b x ≡ x) (x : A) where
   -- theirs has changed no pair of the bits from i up to j
-  abbrev None : ℕ → ℕ → Type 0
-  None i j = (k : ℕ) → i ≤ k → k < j → differ (bit_at theirs k) (bit_at base k) ≡ false
+  abbrev Alike : ℕ → ℕ → Type 0
+  Alike i j = (k : ℕ) → i ≤ k → k < j → differ (bit_at theirs k) (bit_at base k) ≡ false
 
-  skip_row : (y : A) (b m a : ℕ) → a ≤ m → m ≤ b → None (pair_count b + a) (pair_count b + m) → over_row change b a y ≡ over_row change b m y
+  skip_row : (y : A) (b m a : ℕ) → a ≤ m → m ≤ b → Alike (pair_count b + a) (pair_count b + m) → over_row change b a y ≡ over_row change b m y
   unfolding over_row
   skip_row y b zero a h l none = let e : a ≡ 0 = omega arith in ap (λ k. over_row change b k y) e
   skip_row y b (suc m) a h l none = elim (ℕ_discrete a (suc m)) [
@@ -86,7 +87,7 @@ module _ {A : Type 0} (change : ℕ → ℕ → A → A) (theirs base : List ℕ
         ∙ sym (idle m b (row_bit theirs base m b l ∙ none (pair_count b + m) (omega arith) (omega arith)) _)
   ]
 
-  skip : (a b a' b' : ℕ) → a ≤ b → b ≤ b' → a' ≤ b' → pair_count b + a ≤ pair_count b' + a' → None (pair_count b + a) (pair_count b' + a')
+  skip : (a b a' b' : ℕ) → a ≤ b → b ≤ b' → a' ≤ b' → pair_count b + a ≤ pair_count b' + a' → Alike (pair_count b + a) (pair_count b' + a')
       → over_to change a b x ≡ over_to change a' b' x
   unfolding over_pairs over_row
   skip a b a' zero h l m o none = let e : b ≡ 0 = omega arith in let d : a ≡ a' = omega arith in rw (d, e) refl
@@ -107,11 +108,8 @@ module _ {A : Type 0} (change : ℕ → ℕ → A → A) (theirs base : List ℕ
   walk_step a b e f = rw add-one (f ∙ ap (change a b) e)
 
   pub walk_next : {n a b : ℕ} {r : Pair} {t : A} → Place n a b → NextPair theirs base n a b r → t ≡ over_to change a b x → t ≡ over_to change r.a r.b x
-  walk_next {n} {a} {b} {r} p f e = e ∙ skip a b r.a r.b p.low f.onward low f.first.start f.first.none
-    where
-      low : r.a ≤ r.b
-      low = elim (ℕ_discrete r.b n) [ yes q ↦ omega (arith, f.ended q) | no q ↦ omega (arith, (f.found q).0) ]
+  walk_next {n} {a} {b} {r} p f e = e ∙ skip a b r.a r.b p.low f.onward (omega (arith, f.below)) f.first.start f.first.none
 
-  pub walk_end : {n a b : ℕ} {r : Pair} {t : A} → Place n a b → NextPair theirs base n a b r → r.b ≡ n → t ≡ over_to change a b x → t ≡ over_pairs change n x
+  pub walk_end : {n a b : ℕ} {t : A} → Place n a b → FirstChanged theirs base n a b (pair_count n) → t ≡ over_to change a b x → t ≡ over_pairs change n x
   unfolding over_row
-  walk_end p f q e = walk_next p f e ∙ rw (q, f.ended q) refl
+  walk_end {n} {a} {b} p f e = e ∙ skip a b 0 n p.low p.few zero-le (omega (arith, f.start)) (λ k l m. f.none k l (omega arith))

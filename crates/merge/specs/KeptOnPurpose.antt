@@ -6,11 +6,11 @@ use Rattle.ego.specs.Graph.{Graph}
 use Rattle.state.specs.Sizes.{edge_bytes}
 use Rattle.state.specs.State.{State, size, graph}
 use Rattle.state.specs.Refusal.{Condition, crowded_before, everyone, refusal}
+use Rattle.state.specs.Answers.{Nowhere, Refused}
 use Rattle.state.specs.Outcome.{lengths}
-use Rattle.merge.specs.Conflict.{conflict_call, conflict_conditions}
+use Rattle.merge.specs.Conflict.{between, conflict_call, conflict_conditions}
 use Rattle.merge.specs.Pinned.{Brought, brought_lengths, in_conflict, pinned_call}
 use Rattle.merge.specs.Reconcile.{reconcile_call}
-use Rattle.merge.specs.declared.conflict.Conflict.TheVariants.{Between, NoConflict, Refused}
 
 -- Pins of the edges' length, and no pair confirmed.
 pub record NothingPinned (n : ℕ) (pins : List ℕ) : Type 0 where
@@ -48,13 +48,13 @@ pub record KeptOnPurpose : Type 0 where
       → ((pinned_call s k).refusal ≡ 15) ↔ ((refusal (first_conditions s k) ≡ 0) × (a : ℕ) × (b : ℕ) × (a < b) × (b < size s) × Overruled (graph s) k a b)
   -- The first conflict is a pair exactly if the reconcile, past its first conditions, turns back with 15.
   pub shown : (s : State) (k : Brought) → refusal (first_conditions s k) ≡ 0
-      → ((a : ℕ) × (b : ℕ) × (conflict_call s.edges (size s) k ≡ Between a b)) ↔ ((pinned_call s k).refusal ≡ 15)
+      → ((a : ℕ) × (b : ℕ) × (conflict_call s.edges (size s) k ≡ between a b)) ↔ ((pinned_call s k).refusal ≡ 15)
   -- A pair is the answer exactly if it is the lowest in conflict,
   pub lowest : (edges : List ℕ) (n : ℕ) (k : Brought) → refusal (conflict_conditions edges n k) ≡ 0 → (a b : ℕ)
-      → (conflict_call edges n k ≡ Between a b) ↔ Lowest (edge edges) n k a b
+      → (conflict_call edges n k ≡ between a b) ↔ Lowest (edge edges) n k a b
   -- none exactly if no pair is,
   pub none : (edges : List ℕ) (n : ℕ) (k : Brought) → refusal (conflict_conditions edges n k) ≡ 0
-      → (conflict_call edges n k ≡ NoConflict) ↔ ((a b : ℕ) → a < b → b < n → in_conflict (edge edges) k a b ≡ false)
+      → (conflict_call edges n k ≡ Nowhere) ↔ ((a b : ℕ) → a < b → b < n → in_conflict (edge edges) k a b ≡ false)
   -- and otherwise the call is refused.
   pub refused : (edges : List ℕ) (n : ℕ) (k : Brought) → refusal (conflict_conditions edges n k) ≢ 0
       → conflict_call edges n k ≡ Refused (refusal (conflict_conditions edges n k))

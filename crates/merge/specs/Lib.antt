@@ -2,6 +2,7 @@
 pub mod Reconcile
 pub mod Single
 pub mod Pinned
+pub mod Lent
 pub mod Alike
 pub mod Conflict
 pub mod KeptOnPurpose

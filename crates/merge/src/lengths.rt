@@ -1,42 +1,33 @@
 // Refusal 2 of the buffers that a reconcile brings: each has a bit for each pair.
 ghost use Rattle.std.specs.Prelude.{[], ◌∷◌, ◌≡◌, ◌≤◌};
 ghost use Rattle.packed.specs.Pairs.{max_nodes};
+ghost use Rattle.state.specs.Answers.{refusal_of};
 ghost use Rattle.state.specs.Refusal.{buffer_length, refusal};
 ghost use Rattle.state.specs.Sizes.{edge_bytes};
-ghost use Rattle.merge.specs.Pinned.{brought_lengths, brought};
+ghost use Rattle.merge.specs.Pinned.{brought_lengths};
+ghost use Rattle.merge.specs.Lent.{lent};
 
-use state::refusal::LENGTH;
+use crate::brought::Brought;
+use state::refusal::Refusal;
 use state::sizes::edge_bytes;
 
 // Refusal 2 of two buffers of so many bytes.
-pub(crate) fn two_refusal(n: usize, x: usize, y: usize) -> u64
+pub(crate) fn check_two(n: usize, x: usize, y: usize) -> Result<(), Refusal>
     requires { n ≤ max_nodes }
-    ensures { result ≡ refusal (buffer_length (edge_bytes n) x ∷ buffer_length (edge_bytes n) y ∷ []) }
+    ensures { refusal_of result ≡ refusal (buffer_length (edge_bytes n) x ∷ buffer_length (edge_bytes n) y ∷ []) }
 {
     let bytes = edge_bytes(n);
-    if x != bytes {
-        return LENGTH;
+    if x != bytes || y != bytes {
+        return Err(Refusal::Length);
     }
-    if y != bytes {
-        return LENGTH;
-    }
-    0
+    Ok(())
 }
 
 // Refusal 2 of my pins, theirs, their pins and the original.
-pub(crate) fn brought_refusal(
-    n: usize,
-    pins: &[u8],
-    theirs: &[u8],
-    their_pins: &[u8],
-    base: &[u8],
-) -> u64
+pub(crate) fn check_brought(n: usize, brought: Brought) -> Result<(), Refusal>
     requires { n ≤ max_nodes }
-    ensures { result ≡ refusal (brought_lengths n (brought pins.now theirs.now their_pins.now base.now)) }
+    ensures { refusal_of result ≡ refusal (brought_lengths n (lent brought.entry)) }
 {
-    let first = two_refusal(n, pins.len(), theirs.len());
-    if first != 0 {
-        return first;
-    }
-    two_refusal(n, their_pins.len(), base.len())
+    check_two(n, brought.pins.len(), brought.theirs.len())?;
+    check_two(n, brought.their_pins.len(), brought.base.len())
 }

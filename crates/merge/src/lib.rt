@@ -1,6 +1,7 @@
 // Reconcile two editors' graphs.
 #![tactic(auto)]
 
+pub mod brought;
 pub mod changed;
 pub mod conflict;
 pub mod lengths;

@@ -6,59 +6,43 @@ ghost use Rattle.packed.specs.Inside.Degrees.{degrees_of};
 ghost use Rattle.merge.specs.Reconcile.{takes};
 ghost use Rattle.merge.specs.Inside.Steps.{corrects, Correctable, merged_edges};
 
-use crate::changed::next_pair;
+use crate::brought::Changes;
+use crate::changed::Pair;
 use packed::degrees::shift;
 use packed::edges::{MAX_NODES, has};
 
-// Whether the pair a, b takes theirs: it differs there from the original and from mine.
-pub(crate) fn takes(edges: &[u8], theirs: &[u8], base: &[u8], a: usize, b: usize) -> bool
-    requires { Room (max a b + 1) edges.now × Room (max a b + 1) theirs.now × Room (max a b + 1) base.now }
-    ensures { result ≡ takes (edge edges.now) (edge theirs.now) (edge base.now) a b }
+// Whether the pair takes theirs: it differs there from the original and from mine.
+pub(crate) fn takes(edges: &[u8], changes: Changes, pair: Pair) -> bool
+    requires { Room (max pair.a pair.b + 1) edges.now × Room (max pair.a pair.b + 1) changes.theirs.now × Room (max pair.a pair.b + 1) changes.base.now }
+    ensures { result ≡ takes (edge edges.now) (edge changes.entry.theirs.now) (edge changes.entry.base.now) pair.a pair.b }
 {
-    if has(theirs, a, b) {
-        if has(base, a, b) {
-            return false;
-        }
-        return !has(edges, a, b);
-    }
-    if has(base, a, b) {
-        return has(edges, a, b);
-    }
-    false
+    let Pair { a, b } = pair;
+    let there = has(changes.theirs, a, b);
+    there != has(changes.base, a, b) && there != has(edges, a, b)
 }
 
-// The degrees as the pair a, b leaves them.
-fn correct(edges: &[u8], theirs: &[u8], base: &[u8], degrees: &mut [u16], a: usize, b: usize)
-    requires { Correctable edges.now theirs.now base.now degrees.old a b }
-    ensures { degrees.new ≡ corrects edges.now theirs.now base.now a b degrees.old }
+// The degrees as the pair leaves them.
+fn correct(edges: &[u8], changes: Changes, degrees: &mut [u16], pair: Pair)
+    requires { Correctable edges.now changes.theirs.now changes.base.now degrees.old pair.a pair.b }
+    ensures { degrees.new ≡ corrects edges.now changes.entry.theirs.now changes.entry.base.now pair.a pair.b degrees.old }
 {
-    if takes(edges, theirs, base, a, b) {
-        shift(degrees, a, b, has(theirs, a, b));
+    if takes(edges, changes, pair) {
+        shift(degrees, pair.a, pair.b, has(changes.theirs, pair.a, pair.b));
     }
 }
 
 // The degrees of the n nodes after the call, from those before it.
 pub(crate) fn corrected(
     edges: &[u8],
-    theirs: &[u8],
-    base: &[u8],
+    changes: Changes,
     n: usize,
-    degrees: [u16; MAX_NODES],
+    mut degrees: [u16; MAX_NODES],
 ) -> [u16; MAX_NODES]
-    requires { Room n edges.now × Room n theirs.now × Room n base.now × (degrees ≡ degrees_of edges.now n) }
-    ensures { result ≡ degrees_of (merged_edges edges.now theirs.now base.now n) n }
+    requires { Room n edges.now × Room n changes.theirs.now × Room n changes.base.now × (degrees ≡ degrees_of edges.now n) }
+    ensures { result ≡ degrees_of (merged_edges edges.now changes.entry.theirs.now changes.entry.base.now n) n }
 {
-    let mut after = degrees;
-    let mut a: usize = 0;
-    let mut b: usize = 0;
-    loop {
-        let next = next_pair(theirs, base, n, a, b);
-        a = next.a;
-        b = next.b;
-        if b == n {
-            return after;
-        }
-        correct(edges, theirs, base, &mut after[..], a, b);
-        a += 1;
+    for pair in changes.pairs(n) {
+        correct(edges, changes, &mut degrees, pair);
     }
+    degrees
 }

@@ -1,55 +1,63 @@
 // The call that brings another editor's changes into the state.
-ghost use Rattle.std.specs.Prelude.{[], ◌∷◌, ◌≡◌};
+ghost use Rattle.std.specs.Prelude.{[], ◌∷◌, ◌≡◌, IfOk};
 ghost use Rattle.packed.specs.Edges.{edge};
 ghost use Rattle.packed.specs.Inside.Degrees.{degrees_of};
 ghost use Rattle.packed.specs.Inside.Room.{Room};
-ghost use Rattle.state.specs.Refusal.{crowded_after, everyone, refusal};
+ghost use Rattle.state.specs.Answers.{refusal_of};
+ghost use Rattle.state.specs.Refusal.{crowded_after, crowded_before, everyone, refusal};
 ghost use Rattle.state.specs.Outcome.{left};
 ghost use Rattle.merge.specs.Reconcile.{merged, reconcile_call};
 ghost use Rattle.merge.specs.Inside.Steps.{merge_conditions};
 ghost use Rattle.state.specs.State.{state};
 
-use crate::lengths::two_refusal;
+use crate::brought::Changes;
+use crate::lengths::check_two;
 use crate::merged::corrected;
 use crate::taken::take_theirs;
 use packed::degrees::degrees_of;
 use packed::edges::MAX_NODES;
 use state::crowded::any_among;
-use state::refusal::{CROWDED_AFTER, CROWDED_BEFORE};
-use state::sizes::state_refusal;
+use state::refusal::Refusal;
+use state::sizes::check_state;
+
+// The degrees before the call, or refusal 11.
+pub(crate) fn check_before(edges: &[u8], n: usize) -> Result<[u16; MAX_NODES], Refusal>
+    requires { Room n edges.now }
+    ensures refused { refusal_of result ≡ refusal (crowded_before (edge edges.now) n everyone ∷ []) }
+    ensures degrees { IfOk result (λ d. d ≡ degrees_of edges.now n) }
+{
+    let degrees = degrees_of(edges, n);
+    if any_among(&degrees, n) {
+        return Err(Refusal::CrowdedBefore);
+    }
+    Ok(degrees)
+}
 
 // Refusal 12 of a reconcile, from the degrees before it.
-pub(crate) fn after_refusal(
+pub(crate) fn check_after(
     edges: &[u8],
-    theirs: &[u8],
-    base: &[u8],
+    changes: Changes,
     n: usize,
     degrees: [u16; MAX_NODES],
-) -> u64
-    requires { Room n edges.now × Room n theirs.now × Room n base.now × (degrees ≡ degrees_of edges.now n) }
-    ensures { result ≡ refusal (crowded_after (merged (edge edges.now) (edge theirs.now) (edge base.now)) n everyone ∷ []) }
+) -> Result<(), Refusal>
+    requires { Room n edges.now × Room n changes.theirs.now × Room n changes.base.now × (degrees ≡ degrees_of edges.now n) }
+    ensures { refusal_of result ≡ refusal (crowded_after (merged (edge edges.now) (edge changes.entry.theirs.now) (edge changes.entry.base.now)) n everyone ∷ []) }
 {
-    let after = corrected(edges, theirs, base, n, degrees);
-    if any_among(&after[..], n) {
-        return CROWDED_AFTER;
+    let after = corrected(edges, changes, n, degrees);
+    if any_among(&after, n) {
+        return Err(Refusal::CrowdedAfter);
     }
-    0
+    Ok(())
 }
 
 // The refusals of a reconcile after those of the state's lengths.
-fn reconcile_refusal(edges: &[u8], theirs: &[u8], base: &[u8], n: usize) -> u64
+fn check_reconcile(edges: &[u8], changes: Changes, n: usize) -> Result<(), Refusal>
     requires { Room n edges.now }
-    ensures { result ≡ refusal (merge_conditions n edges.now theirs.now base.now) }
+    ensures { refusal_of result ≡ refusal (merge_conditions n edges.now changes.entry.theirs.now changes.entry.base.now) }
 {
-    let brought = two_refusal(n, theirs.len(), base.len());
-    if brought != 0 {
-        return brought;
-    }
-    let degrees = degrees_of(edges, n);
-    if any_among(&degrees[..], n) {
-        return CROWDED_BEFORE;
-    }
-    after_refusal(edges, theirs, base, n, degrees)
+    check_two(n, changes.theirs.len(), changes.base.len())?;
+    let degrees = check_before(edges, n)?;
+    check_after(edges, changes, n, degrees)
 }
 
 // The pairs where theirs differs from the original and from mine take theirs.
@@ -59,18 +67,13 @@ pub fn reconcile(
     marks: &mut [u8],
     theirs: &[u8],
     base: &[u8],
-) -> u64
-    ensures { left result (state edges.new figures.new marks.new) ≡ reconcile_call (state edges.old figures.old marks.old) theirs.now base.now }
+) -> Result<(), Refusal>
+    ensures { left (refusal_of result) (state edges.new figures.new marks.new) ≡ reconcile_call (state edges.old figures.old marks.old) theirs.now base.now }
 {
     let n = figures.len();
-    let lengths = state_refusal(n, edges.len(), marks.len());
-    if lengths != 0 {
-        return lengths;
-    }
-    let refusal = reconcile_refusal(edges, theirs, base, n);
-    if refusal != 0 {
-        return refusal;
-    }
-    take_theirs(edges, figures, marks, theirs, base);
-    0
+    check_state(n, edges.len(), marks.len())?;
+    let changes = Changes { theirs, base };
+    check_reconcile(edges, changes, n)?;
+    take_theirs(edges, figures, marks, changes);
+    Ok(())
 }

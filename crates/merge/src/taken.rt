@@ -5,30 +5,26 @@ ghost use Rattle.merge.specs.Reconcile.{reconcile_call, reconciled};
 ghost use Rattle.merge.specs.Inside.Steps.{Ready, stepped, all_stepped};
 ghost use Rattle.state.specs.State.{state};
 
-use crate::changed::next_pair;
+use crate::brought::Changes;
+use crate::changed::Pair;
 use crate::merged::takes;
 use edits::edit::edit_step;
 use packed::edges::has;
 
-// Sets the pair a, b to `on` where it takes theirs and theirs has it so.
+// Sets the pair to `on` where it takes theirs and theirs has it so.
 fn take(
     edges: &mut [u8],
     figures: &mut [u64],
     marks: &mut [u8],
-    theirs: &[u8],
-    base: &[u8],
-    a: usize,
-    b: usize,
+    changes: Changes,
+    pair: Pair,
     on: bool,
 )
-    requires { (a < b) × (b < length figures.old) × Ready on theirs.now base.now (state edges.old figures.old marks.old) }
-    ensures { state edges.new figures.new marks.new ≡ stepped on (edge theirs.now) (edge base.now) a b (state edges.old figures.old marks.old) }
+    requires { (pair.a < pair.b) × (pair.b < length figures.old) × Ready on changes.theirs.now changes.base.now (state edges.old figures.old marks.old) }
+    ensures { state edges.new figures.new marks.new ≡ stepped on (edge changes.entry.theirs.now) (edge changes.entry.base.now) pair.a pair.b (state edges.old figures.old marks.old) }
 {
-    if !takes(edges, theirs, base, a, b) {
-        return;
-    }
-    if has(theirs, a, b) == on {
-        edit_step(edges, figures, marks, a, b, on);
+    if takes(edges, changes, pair) && has(changes.theirs, pair.a, pair.b) == on {
+        edit_step(edges, figures, marks, pair.a, pair.b, on);
     }
 }
 
@@ -37,39 +33,22 @@ pub(crate) fn take_all(
     edges: &mut [u8],
     figures: &mut [u64],
     marks: &mut [u8],
-    theirs: &[u8],
-    base: &[u8],
+    changes: Changes,
     on: bool,
 )
-    requires { Ready on theirs.now base.now (state edges.old figures.old marks.old) }
-    ensures { state edges.new figures.new marks.new ≡ all_stepped on theirs.now base.now (state edges.old figures.old marks.old) }
+    requires { Ready on changes.theirs.now changes.base.now (state edges.old figures.old marks.old) }
+    ensures { state edges.new figures.new marks.new ≡ all_stepped on changes.entry.theirs.now changes.entry.base.now (state edges.old figures.old marks.old) }
 {
-    let n = figures.len();
-    let mut a: usize = 0;
-    let mut b: usize = 0;
-    loop {
-        let next = next_pair(theirs, base, n, a, b);
-        a = next.a;
-        b = next.b;
-        if b == n {
-            return;
-        }
-        take(edges, figures, marks, theirs, base, a, b, on);
-        a += 1;
+    for pair in changes.pairs(figures.len()) {
+        take(edges, figures, marks, changes, pair, on);
     }
 }
 
 // The removals, then the additions.
-pub(crate) fn take_theirs(
-    edges: &mut [u8],
-    figures: &mut [u64],
-    marks: &mut [u8],
-    theirs: &[u8],
-    base: &[u8],
-)
-    requires { (reconcile_call (state edges.old figures.old marks.old) theirs.now base.now).refusal ≡ 0 }
-    ensures { state edges.new figures.new marks.new ≡ reconciled (state edges.old figures.old marks.old) theirs.now base.now }
+pub(crate) fn take_theirs(edges: &mut [u8], figures: &mut [u64], marks: &mut [u8], changes: Changes)
+    requires { (reconcile_call (state edges.old figures.old marks.old) changes.theirs.now changes.base.now).refusal ≡ 0 }
+    ensures { state edges.new figures.new marks.new ≡ reconciled (state edges.old figures.old marks.old) changes.entry.theirs.now changes.entry.base.now }
 {
-    take_all(edges, figures, marks, theirs, base, false);
-    take_all(edges, figures, marks, theirs, base, true);
+    take_all(edges, figures, marks, changes, false);
+    take_all(edges, figures, marks, changes, true);
 }

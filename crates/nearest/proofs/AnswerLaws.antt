@@ -11,9 +11,9 @@ use Rattle.arith.proofs.Sums.{any_to_here, any_to_never}
 use Rattle.arith.proofs.Tests.{and_all, and-false, test}
 use Rattle.arith.specs.Lists.{elem}
 use Rattle.ego.specs.Graph.{Graph}
-use Rattle.nearest.specs.declared.search.Nearest.TheVariants.{At, NoneWithin}
+use Rattle.std.proofs.Common.{None, Some}
 use Rattle.nearest.specs.Inside.Levels.{new_at}
-use Rattle.nearest.specs.Nearest.{fewest_links, lowest_at, nearest_of}
+use Rattle.nearest.specs.Nearest.{fewest_links, lowest_at, near, nearest_of}
 use Rattle.nearest.specs.Paths.{any_at, listed_at, reaches}
 use Rattle.packed.proofs.FirstLaws.{first_least}
 use Rattle.packed.specs.Inside.Search.{FirstFrom}
@@ -37,7 +37,7 @@ module _ (g : Graph) (n p : ℕ) (listed : List ℕ) (limit : ℕ) where
   fewest_first f = rw sub-zero at (first_least (any_at g n p listed) f)
 
   pub answer_at : (q h : ℕ) → h ≤ limit → q < n → listed_at g n p listed h q ≡ true → ((k r : ℕ) → k < h → r < n → listed_at g n p listed k r ≡ false)
-      → ((r : ℕ) → r < q → listed_at g n p listed h r ≡ false) → At q h ≡ nearest_of g n p listed limit
+      → ((r : ℕ) → r < q → listed_at g n p listed h r ≡ false) → Some (near q h) ≡ nearest_of g n p listed limit
   unfolding nearest_of lowest_at
   answer_at q h l lq e none lower =
       let links : h ≡ fewest_links g n p listed limit = fewest_first (record {
@@ -49,7 +49,7 @@ module _ (g : Graph) (n p : ℕ) (listed : List ℕ) (limit : ℕ) where
       let first : FirstFrom (listed_at g n p listed h) 0 n q = record { start = zero-le; stop = omega arith; none = λ r _ a. lower r a; some = λ _. e } in
       rw (← links, le-ltb limit h l, ← (rw sub-zero at (first_least (listed_at g n p listed h) first)))
 
-  pub answer_none : ((k r : ℕ) → k ≤ limit → r < n → listed_at g n p listed k r ≡ false) → NoneWithin ≡ nearest_of g n p listed limit
+  pub answer_none : ((k r : ℕ) → k ≤ limit → r < n → listed_at g n p listed k r ≡ false) → None ≡ nearest_of g n p listed limit
   unfolding nearest_of
   answer_none none =
       let links : limit + 1 ≡ fewest_links g n p listed limit = fewest_first (record {

@@ -16,15 +16,20 @@ use Rattle.state.specs.Outcome.{edge_lengths}
 use Rattle.state.specs.Refusal.{Condition, crowded_before, everyone, node_number, refusal, too_many}
 use Rattle.nearest.proofs.ListedLaws.{numbers_each, numbers_passed}
 use Rattle.nearest.specs.Nearest.{answer_of, fewest_links, nearest_call, nearest_conditions, nearest_of, numbers_of}
-use Rattle.nearest.specs.declared.search.Nearest.{Nearest}
-use Rattle.nearest.specs.declared.search.Nearest.TheVariants.{Refused}
+use Rattle.nearest.specs.declared.search.Near.{Near}
+use Rattle.state.specs.Answers.{Found, found, Refused}
+use Rattle.std.proofs.Common.{Ok, Option}
+
+-- what a search answers as what is found
+pub as_found : {x y : Option Near} → x ≡ y → found (Ok x) ≡ found (Ok y)
+as_found e = ap (λ (o : Option Near). found (Ok o)) e
 
 module _ (edges : List ℕ) (n p : ℕ) (listed : List ℕ) (limit : ℕ) where
   pub refused_is : {r : ℕ} → r ≡ refusal (nearest_conditions edges n p listed) → (r ≡ 0 → ⊥) → Refused r ≡ nearest_call edges n p listed limit
   unfolding nearest_call
   refused_is {r} e d = rw (← e, ne_eqb r 0 d)
 
-  pub accepted_is : {x : Nearest} → refusal (nearest_conditions edges n p listed) ≡ 0 → x ≡ nearest_of (edge edges) n p listed limit
+  pub accepted_is : {x : Found Near} → refusal (nearest_conditions edges n p listed) ≡ 0 → x ≡ found (Ok (nearest_of (edge edges) n p listed limit))
       → x ≡ nearest_call edges n p listed limit
   unfolding nearest_call
   accepted_is z e = rw z e
@@ -37,7 +42,7 @@ module _ (edges : List ℕ) (n p : ℕ) (listed : List ℕ) (limit : ℕ) where
   ]
 
   -- the answer, with its numbers
-  pub answered_by : {x : Nearest} → x ≡ nearest_call edges n p listed limit
+  pub answered_by : {x : Found Near} → x ≡ nearest_call edges n p listed limit
       → (x ≡ nearest_call edges n p listed limit) × (numbers_of x ≡ answer_of edges n p listed limit)
   answered_by e = (e, ap numbers_of e ∙ numbers_are)
 

@@ -1,5 +1,5 @@
 -- The listed nodes: refusal 4 of each, and which nodes are listed, place by place. Assumes nothing.
-use mathlib.Core.Bool.{false, ◌||◌}
+use mathlib.Core.Bool.{cond, false, ◌||◌}
 use mathlib.Core.List.{◌++◌, [], List, map, ◌∷◌}
 use mathlib.Core.Path.{ap, refl, sym, ◌∙◌, ◌≡◌}
 use Prim.Native.Nat.{◌+◌, ◌<◌, suc, suc-le-suc, zero, ℕ, ◌≤◌}
@@ -7,14 +7,16 @@ use native.Mathlib.Decide.{dec_lt}
 use native.Mathlib.Nat.{le_antisymm}
 use native.Mathlib.Numerals.{add-one}
 use native.Mathlib.Omega.{arith}
-use lib.Dec.{eqb}
+use lib.Dec.{eqb, leb}
+use mathlib.Core.Logic.{inl, inr}
+use Rattle.std.specs.List.{list_any}
 use lib.ListN.{get_or, length}
 use Rattle.arith.proofs.Places.{elem_places}
 use Rattle.arith.proofs.Sums.{any_to_none}
-use Rattle.arith.proofs.Tests.{eqb_turned}
+use Rattle.arith.proofs.Tests.{eqb_turned, test}
 use Rattle.arith.specs.Lists.{elem}
 use Rattle.arith.specs.Sums.{any_to}
-use Rattle.state.proofs.RefusalLaws.{append_none, passed_node, refusal_none, refused_node}
+use Rattle.state.proofs.RefusalLaws.{passed_node, refused_node}
 use Rattle.state.specs.Refusal.{Condition, node_number, refusal}
 use Rattle.nearest.proofs.SetLaws.{set_ext}
 use Rattle.nearest.specs.Inside.Strips.{in_strips, SetOf}
@@ -27,9 +29,6 @@ module _ (n : ℕ) where
   numbers_passed [] cs h = refl
   numbers_passed (x ∷ l) cs h = passed_node (map (node_number n) l ++ cs) n x (h 0 (omega arith)) ∙ numbers_passed l cs (λ i b. h (suc i) (suc-le-suc b))
 
-  pub numbers_none : (l : List ℕ) → Nodes l → refusal (map (node_number n) l) ≡ 0
-  numbers_none l h = append_none (map (node_number n) l) [] (numbers_passed l [] h ∙ refusal_none)
-
   pub numbers_refused : (l : List ℕ) (i : ℕ) → i < length l → n ≤ get_or l i 0 → refusal (map (node_number n) l) ≡ 4
   numbers_refused [] i b a = absurd (let z : ⊥ = omega arith in z)
   numbers_refused (x ∷ l) zero b a = refused_node (map (node_number n) l) n x a
@@ -37,6 +36,12 @@ module _ (n : ℕ) where
     | yes h ↦ passed_node (map (node_number n) l) n x h ∙ numbers_refused l i (omega arith) a
     | no h ↦ refused_node (map (node_number n) l) n x (omega arith)
   ]
+
+  -- one of them is none
+  pub numbers_any : (l : List ℕ) → refusal (map (node_number n) l) ≡ cond (list_any (leb n) l) 4 0
+  unfolding refusal node_number
+  numbers_any [] = refl
+  numbers_any (x ∷ l) = elim (test (leb n x)) [ inl t ↦ rw t | inr t ↦ rw t (numbers_any l) ]
 
   pub numbers_each : (l : List ℕ) → refusal (map (node_number n) l) ≡ 0 → Nodes l
   numbers_each l z i b = elim (dec_lt (get_or l i 0) n) [ yes h ↦ h | no h ↦ absurd (let e : ⊥ = omega (arith, numbers_refused l i b (omega arith)) in e) ]

@@ -13,9 +13,9 @@ use Rattle.nearest.proofs.CallLaws.{accepted_knows, refused_is}
 use Rattle.nearest.proofs.LevelLaws.{far_few, new_reaches, reached_new}
 use Rattle.nearest.proofs.NearestListed.{answered, nearest_listed}
 use Rattle.nearest.proofs.PathLaws.{path_reaches, reaches_more, reaches_path, reaches_same, reaches_self}
-use Rattle.nearest.specs.declared.search.Nearest.{Nearest}
-use Rattle.nearest.specs.declared.search.Nearest.TheVariants.{At, Refused}
-use Rattle.nearest.specs.Nearest.{nearest_call, nearest_conditions}
+use Rattle.nearest.specs.declared.search.Near.{Near}
+use Rattle.state.specs.Answers.{At, Found, Refused}
+use Rattle.nearest.specs.Nearest.{near, nearest_call, nearest_conditions}
 use Rattle.nearest.specs.NearestListed.{Answers, NearestChanges}
 use Rattle.packed.proofs.EdgeLaws.{edge_comm, edge_with_other, edge_with_same, with_self}
 use Rattle.packed.proofs.PairLaws.{pair_lt}
@@ -39,13 +39,13 @@ with_more es n a b room ha hb x y _ _ t = elim (ℕ_discrete a b) [
 
 module _ (edges : List ℕ) (n p : ℕ) (listed : List ℕ) (limit : ℕ) where
   -- a call that answers is not refused
-  not_refused : {x : Nearest} → nearest_call edges n p listed limit ≡ x → ((r : ℕ) → Refused r ≡ x → ⊥) → refusal (nearest_conditions edges n p listed) ≡ 0
+  not_refused : {x : Found Near} → nearest_call edges n p listed limit ≡ x → ((r : ℕ) → Refused r ≡ x → ⊥) → refusal (nearest_conditions edges n p listed) ≡ 0
   not_refused e other = elim (ℕ_discrete (refusal (nearest_conditions edges n p listed)) 0) [
     | yes z ↦ z
     | no d ↦ absurd (other _ (refused_is edges n p listed limit refl d ∙ e))
   ]
 
-  answers : {q h : ℕ} → nearest_call edges n p listed limit ≡ At q h → (refusal (nearest_conditions edges n p listed) ≡ 0) × Answers (edge edges) n p listed limit q h
+  answers : {q h : ℕ} → nearest_call edges n p listed limit ≡ At (near q h) → (refusal (nearest_conditions edges n p listed) ≡ 0) × Answers (edge edges) n p listed limit q h
   answers {q} {h} e =
       let z = not_refused e (λ r d. let z : ◌≡◌ {A = ℕ} 0 1 = cc in omega arith) in
       (z, (nearest_listed.found edges n p listed limit q h z).0 e)

@@ -2,7 +2,7 @@
 use mathlib.Core.Bool.{false, not-eq-not, true, true≢false}
 use mathlib.Core.List.{List, Memᴰ}
 use mathlib.Core.Logic.{inl, inr, ◌⊎◌}
-use mathlib.Core.Path.{refl, sym, ◌∙◌, ◌≡◌}
+use mathlib.Core.Path.{ap, refl, sym, ◌∙◌, ◌≡◌}
 use Prim.Native.Nat.{◌+◌, ◌<◌, zero-le, ℕ}
 use native.Mathlib.Decide.{dec_lt, ℕ_discrete}
 use native.Mathlib.Nat.{le_antisymm}
@@ -14,10 +14,13 @@ use Rattle.arith.proofs.Tests.{and-true}
 use Rattle.arith.specs.Lists.{elem, least_from}
 use Rattle.ego.specs.Graph.{Graph}
 use Rattle.nearest.proofs.AnswerLaws.{answer_at, answer_none}
-use Rattle.nearest.proofs.CallLaws.{accepted_is, accepted_knows, refused_is}
+use Rattle.nearest.proofs.CallLaws.{accepted_is, accepted_knows, as_found, refused_is}
 use Rattle.nearest.proofs.PathLaws.{path_reaches, reaches_inside, reaches_path}
-use Rattle.nearest.specs.declared.search.Nearest.TheVariants.{At, NoneWithin}
-use Rattle.nearest.specs.Nearest.{nearest_call, nearest_conditions, nearest_of, numbers_of}
+use Rattle.std.proofs.Common.{None, Some}
+use Rattle.nearest.specs.declared.search.Near.{Near}
+use Rattle.state.specs.Answers.{At, found, Nowhere}
+use Rattle.std.proofs.Common.{Ok, Option}
+use Rattle.nearest.specs.Nearest.{near, nearest_call, nearest_conditions, nearest_of, numbers_of}
 use Rattle.nearest.specs.NearestListed.{Answers, NearestListed, Path, Reached}
 use Rattle.nearest.specs.Paths.{any_at, listed_at, reaches}
 use Rattle.packed.proofs.FirstLaws.{least_first}
@@ -42,14 +45,14 @@ module _ (g : Graph) (n p : ℕ) (hp : p < n) (listed : List ℕ) where
   path_any {h} {q} m path = let r = path_listed m path in any_to_here _ n q r.0 r.1
 
   module _ (limit : ℕ) where
-    answer_is_lem : {q h : ℕ} → Answers g n p listed limit q h → At q h ≡ nearest_of g n p listed limit
+    answer_is_lem : {q h : ℕ} → Answers g n p listed limit q h → Some (near q h) ≡ nearest_of g n p listed limit
     answer_is_lem {q} {h} a =
         let r = path_listed a.listed_is a.path in
         answer_at g n p listed limit q h a.within r.0 r.1
         (λ k r l _. not_listed (λ m path. omega (arith, a.fewest r k m path)))
         (λ r l. not_listed (λ m path. omega (arith, a.lowest r m path)))
 
-    none_is : (Reached g n p listed limit → ⊥) → NoneWithin ≡ nearest_of g n p listed limit
+    none_is : (Reached g n p listed limit → ⊥) → None ≡ nearest_of g n p listed limit
     none_is none = answer_none g n p listed limit (λ k r l _. not_listed (λ m path. none (r, k, m, l, path)))
 
     -- there is an answer, or there is none
@@ -77,17 +80,18 @@ module _ (g : Graph) (n p : ℕ) (hp : p < n) (listed : List ℕ) where
               )
         ]
 
-    is_answer : {q h : ℕ} → nearest_of g n p listed limit ≡ At q h → Answers g n p listed limit q h
+    is_answer : {q h : ℕ} → nearest_of g n p listed limit ≡ Some (near q h) → Answers g n p listed limit q h
     is_answer {q} {h} e = elim answered [
       | inl s ↦
           let (r, k, a) = s in
-          let node : r ≡ q = cc (answer_is_lem a) in
-          let links : k ≡ h = cc (answer_is_lem a) in
+          let same : near r k ≡ near q h = cc (answer_is_lem a) in
+          let node : r ≡ q = ap (λ (x : Near). x.node) same in
+          let links : k ≡ h = ap (λ (x : Near). x.hops) same in
           rw (node, links) at a
       | inr none ↦ let z : ◌≡◌ {A = ℕ} 0 1 = cc (none_is none) in absurd (omega arith)
     ]
 
-    is_none : nearest_of g n p listed limit ≡ NoneWithin → Reached g n p listed limit → ⊥
+    is_none : nearest_of g n p listed limit ≡ None → Reached g n p listed limit → ⊥
     is_none e = elim answered [
       | inl s ↦ let (r, k, a) = s in let z : ◌≡◌ {A = ℕ} 0 1 = cc (answer_is_lem a) in absurd (omega arith)
       | inr none ↦ none
@@ -97,6 +101,15 @@ one : (g : Graph) (n p : ℕ) (listed : List ℕ) (limit q h r k : ℕ) → Answ
 one g n p listed limit q h r k a b =
     let e : h ≡ k = le_antisymm (a.fewest r k b.listed_is b.path) (b.fewest q h a.listed_is a.path) in
     (le_antisymm (a.lowest r b.listed_is (rw e b.path)) (b.lowest q a.listed_is (rw e at a.path)), e)
+
+-- what is found is what the search answers
+found_at : (x : Option Near) {y : Near} → found (Ok x) ≡ At y → x ≡ Some y
+found_at (Some z) e = cc
+found_at None e = cc
+
+found_nowhere : (x : Option Near) → found (Ok x) ≡ Nowhere → x ≡ None
+found_nowhere (Some z) e = cc
+found_nowhere None e = refl
 
 pub nearest_listed : NearestListed
 nearest_listed = record {
@@ -108,11 +121,11 @@ nearest_listed = record {
   found = λ edges n p listed limit q h z.
       let l = (accepted_knows edges n p listed z).1 in
       let same = accepted_is edges n p listed limit z refl in
-      (λ e. is_answer (edge edges) n p l listed limit (same ∙ e), λ a. sym (answer_is_lem (edge edges) n p l listed limit a ∙ same));
+      (λ e. is_answer (edge edges) n p l listed limit (found_at _ (same ∙ e)), λ a. sym (as_found (answer_is_lem (edge edges) n p l listed limit a) ∙ same));
   none = λ edges n p listed limit z.
       let l = (accepted_knows edges n p listed z).1 in
       let same = accepted_is edges n p listed limit z refl in
-      (λ e. is_none (edge edges) n p l listed limit (same ∙ e), λ f. sym (none_is (edge edges) n p l listed limit f ∙ same));
+      (λ e. is_none (edge edges) n p l listed limit (found_nowhere _ (same ∙ e)), λ f. sym (as_found (none_is (edge edges) n p l listed limit f) ∙ same));
   refused = λ edges n p listed limit d. sym (refused_is edges n p listed limit refl d);
 }
 
@@ -126,8 +139,8 @@ names_one edges n p listed limit = elim (ℕ_discrete (refusal (nearest_conditio
       elim (answered (edge edges) n p l listed limit) [
         | inl t ↦
             let (q, h, a) = t in
-            rw (← (answer_is_lem (edge edges) n p l listed limit a ∙ same)) (λ e. omega (arith, (path_listed (edge edges) n p l listed a.listed_is a.path).0, sized.few))
-        | inr f ↦ rw (← (none_is (edge edges) n p l listed limit f ∙ same)) (λ e. absurd (true≢false (sym e)))
+            rw (← (as_found (answer_is_lem (edge edges) n p l listed limit a) ∙ same)) (λ e. omega (arith, (path_listed (edge edges) n p l listed a.listed_is a.path).0, sized.few))
+        | inr f ↦ rw (← (as_found (none_is (edge edges) n p l listed limit f) ∙ same)) (λ e. absurd (true≢false (sym e)))
       ]
   | no d ↦ rw (← refused_is edges n p listed limit refl d) (λ e. absurd (true≢false (sym e)))
 ]

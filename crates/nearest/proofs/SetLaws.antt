@@ -1,24 +1,27 @@
 -- The laws of sets of nodes as words: a set from its words, two sets word by word, one node more, and the first node. Assumes nothing.
-use mathlib.Core.Bool.{◌&&◌, Bool, false, not, or-false, or-true, true, ◌||◌}
+use mathlib.Core.Bool.{◌&&◌, Bool, not, or-false, or-true, true, ◌||◌}
 use mathlib.Core.List.{List}
-use mathlib.Core.Path.{ap, refl, sym, ◌∙◌, ◌≡◌}
-use Prim.Native.Nat.{◌%◌, ◌*◌, ◌+◌, ◌-◌, ◌/◌, ◌<◌, ◌^◌, ℕ, ◌≤◌}
+use mathlib.Core.Path.{ap, refl, subst, sym, ◌∙◌, ◌≡◌}
+use Prim.Native.Nat.{◌%◌, ◌*◌, ◌+◌, ◌-◌, ◌/◌, ◌<◌, ◌^◌, suc, zero, zero-le, ℕ, ◌≤◌}
 use native.Mathlib.Decide.{dec_lt, ℕ_discrete}
-use native.Mathlib.Nat.{lt_of_le_of_lt}
+use native.Mathlib.Nat.{le_refl}
 use native.Mathlib.Omega.{arith}
 use borrow.Author.Tests.{ne_eqb}
-use lib.Bits.{and_le_l, bit_and, bit_or, bit_xor, xor_lt}
+use lib.Bits.{bit_and, bit_or, or_lt}
 use lib.Dec.{eqb, lit<}
-use lib.ListN.{get_or, length, length-set, get_or-eq_default, replicate, set}
+use lib.ListN.{get_or, length, length-set, get_or-eq_default, set}
+use lib.Seq.{ext_get_or}
+use denote.Param.Members.{Mut}
+use Rattle.std.specs.Fn.{Called}
+use Rattle.std.specs.Array.{IsFromFnResult, IsFromFnResultFrom}
 use Rattle.arith.proofs.Digits.{or_is}
-use Rattle.arith.proofs.Sums.{Filling, filling_all, get_d_tabulate, length_tabulate}
+use Rattle.arith.proofs.Sums.{Filling, filling_all, filling_more, filling_none, get_d_tabulate, get_or_fill_to_past, length_tabulate}
 use Rattle.arith.proofs.Tests.{eqb_same}
-use Rattle.arith.proofs.Words.{bit-and}
+use Rattle.arith.proofs.Words.{bit-and, bit-or, pack_bit, pack_is, pack_not}
 use Rattle.arith.specs.Digits.{bit_of}
-use Rattle.arith.specs.Sums.{tabulate}
+use Rattle.arith.specs.Sums.{pack_to, tabulate}
 use Rattle.packed.proofs.BitLaws.{in_lt, in_other, in_same, same_words}
-use Rattle.packed.proofs.FirstLaws.{bit-xor, Passed, passed_found, passed_over}
-use Rattle.packed.specs.Bits.{differ}
+use Rattle.packed.proofs.FirstLaws.{Passed, passed_found, passed_over}
 use Rattle.packed.specs.Inside.Runs.{max_run}
 use Rattle.packed.specs.Inside.Search.{FirstFrom}
 use Rattle.nearest.specs.Inside.Strips.{in_strips, in_word, Narrow, places, SetOf, strips}
@@ -47,33 +50,54 @@ set_made word test small has = record {
   has = λ q h. ap (λ w. in_word w q) (get_d_tabulate word strips (q / max_run) 0 (omega arith)) ∙ has q h;
 }
 
--- ---- two sets, word by word: an operation on words that is a test's on their bits
+-- ---- two sets, word by word: words whose bits are a test of the bits of two others
 
-module _ (op : ℕ → ℕ → ℕ) (logic : Bool → Bool → Bool) (bits : (a b j : ℕ) → bit_of (op a b) j ≡ logic (bit_of a j) (bit_of b j)) where
-  pub set_op : (x y : ℕ → ℕ) → ((k : ℕ) → op (x k) (y k) < 2 ^ max_run) → {l₀ l : List ℕ} {k : ℕ} → length l₀ ≡ strips
-      → Filling (λ k. op (x k) (y k)) l₀ (length l₀) l k → strips ≤ k
-      → SetOf l (λ q. logic (in_word (x (q / max_run)) q) (in_word (y (q / max_run)) q))
-  unfolding in_word
-  set_op x y small long w end =
-      rw (filling_all w 0 (omega arith), long)
-      (set_made (λ k. op (x k) (y k)) _ small (λ q h. bits (x (q / max_run)) (y (q / max_run)) (max_run - 1 - q % max_run)))
+pub set_op : (logic : Bool → Bool → Bool) (w x y : ℕ → ℕ) → ((k j : ℕ) → j < max_run → bit_of (w k) j ≡ logic (bit_of (x k) j) (bit_of (y k) j))
+    → ((k : ℕ) → w k < 2 ^ max_run) → {l : List ℕ} → l ≡ tabulate w strips
+    → SetOf l (λ q. logic (in_word (x (q / max_run)) q) (in_word (y (q / max_run)) q))
+unfolding in_word
+set_op logic w x y bits small e = rw e (set_made w _ small (λ q h. bits (q / max_run) (max_run - 1 - q % max_run) (omega arith)))
 
-  -- the words of two sets, into words of zeros
-  pub sets_op : (x y : List ℕ) → ((k : ℕ) → op (get_or x k 0) (get_or y k 0) < 2 ^ max_run) → {l : List ℕ} {k : ℕ}
-      → Filling (λ k. op (get_or x k 0) (get_or y k 0)) (replicate strips 0) strips l k → strips ≤ k → SetOf l (λ q. logic (in_strips x q) (in_strips y q))
-  unfolding in_strips
-  sets_op x y small w end = set_op (λ k. get_or x k 0) (λ k. get_or y k 0) small refl w end
+-- words made one by one, each by a call at its place
+module _ {F : Type 0} (g : Mut F (ℕ × Unit {0}) ℕ) (f : F) (w : ℕ → ℕ)
+    (same : (k y : ℕ) (q : F) → Called g f (k, tt {0}) y q → (q ≡ f) × (y ≡ w k)) where
+  made_each : (l : List ℕ) (i n : ℕ) → IsFromFnResultFrom g f l i n → (k : ℕ) → i ≤ k → k < i + n → get_or l k 0 ≡ w k
+  made_each l i zero h k a b = absurd (omega arith)
+  made_each l i (suc n) h k a b =
+      let (q, y, at, call, rest) = h in
+      elim (ℕ_discrete k i) [
+        | yes e ↦ rw e (at.1 0 ∙ (same i y q call).1)
+        | no d ↦ made_each l (i + 1) n (subst (λ p. IsFromFnResultFrom g p l (i + 1) n) (same i y q call).0 rest) k (omega arith) (omega arith)
+      ]
+
+  pub made_all : {l : List ℕ} → IsFromFnResult g f l strips → l ≡ tabulate w strips
+  made_all {l} r = ext_get_or 0 l (tabulate w strips) (r.long ∙ sym (length_tabulate w strips)) (λ i h.
+      let b : i < strips = omega (arith, r.long) in made_each l 0 strips r.each i zero-le b ∙ sym (get_d_tabulate w strips i 0 b))
+
+-- a loop that puts words into those of a set, by or
+pub filling_start : (w : ℕ → ℕ) {l : List ℕ} → strips ≡ length l → Filling w l strips l 0
+filling_start w {l} e = rw e (filling_none w l)
+
+pub or_more : (w : ℕ → ℕ) {l₀ l : List ℕ} {k : ℕ} → Filling (λ k. bit_or (get_or l₀ k 0) (w k)) l₀ strips l k → k < strips
+    → Filling (λ k. bit_or (get_or l₀ k 0) (w k)) l₀ strips (set l k (bit_or (get_or l k 0) (w k))) (k + 1)
+or_more w {l₀} {k = k} held h = filling_more held h (ap (λ x. bit_or x (w k)) (ap (λ s. get_or s k 0) held.done ∙ get_or_fill_to_past _ l₀ 0 k k (le_refl _)))
+
+pub or_all : (w : ℕ → ℕ) {l₀ l : List ℕ} {k : ℕ} → Narrow l₀ → ((k : ℕ) → w k < 2 ^ max_run)
+    → Filling (λ k. bit_or (get_or l₀ k 0) (w k)) l₀ strips l k → strips ≤ k → SetOf l (λ q. in_strips l₀ q || in_word (w (q / max_run)) q)
+unfolding in_strips
+or_all w {l₀} a b held h =
+    set_op ◌||◌ _ (λ k. get_or l₀ k 0) w (λ k j _. bit-or (get_or l₀ k 0) (w k) j) (λ k. or_lt max_run _ _ (a k) (b k))
+    (filling_all held 0 h ∙ ap (tabulate _) (sym held.all))
 
 -- the bits of the one word that the other has not
-pub bit_without : (a b j : ℕ) → bit_of (bit_xor a (bit_and a b)) j ≡ bit_of a j && not (bit_of b j)
-bit_without a b j = bit-xor a (bit_and a b) j ∙ ap (differ (bit_of a j)) (bit-and a b j) ∙ alone (bit_of a j) (bit_of b j)
-  where
-    alone : (x y : Bool) → differ x (x && y) ≡ x && not y
-    alone true y = refl
-    alone false y = refl
+bit_not : (b j : ℕ) → b < 2 ^ 64 → j < 64 → bit_of (2 ^ 64 - 1 - b) j ≡ not (bit_of b j)
+bit_not b j h l =
+    let all : b ≡ pack_to (bit_of b) 64 = pack_is 64 b (bit_of b) h (λ k _. refl) in
+    let none : 2 ^ 64 - 1 - b ≡ pack_to (λ k. not (bit_of b k)) 64 = omega (arith, all, pack_not (bit_of b) 64) in
+    ap (λ x. bit_of x j) none ∙ pack_bit (λ k. not (bit_of b k)) 64 j l
 
-pub without_lt : (a b : ℕ) → a < 2 ^ max_run → bit_xor a (bit_and a b) < 2 ^ max_run
-without_lt a b h = xor_lt max_run a (bit_and a b) h (lt_of_le_of_lt (and_le_l a b) h)
+pub bit_without : (a b j : ℕ) → b < 2 ^ 64 → j < 64 → bit_of (bit_and a (2 ^ 64 - 1 - b)) j ≡ bit_of a j && not (bit_of b j)
+bit_without a b j h l = bit-and a (2 ^ 64 - 1 - b) j ∙ ap (λ t. bit_of a j && t) (bit_not b j h l)
 
 -- ---- one node more
 

@@ -9,10 +9,10 @@ use Rattle.arith.specs.Lists.{elem, least_from}
 use Rattle.arith.specs.Sums.{any_to}
 use Rattle.ego.proofs.Agreement.{Agree}
 use Rattle.ego.specs.Graph.{Graph}
-use Rattle.nearest.proofs.CallLaws.{accepted_is, accepted_knows, refused_is}
+use Rattle.nearest.proofs.CallLaws.{accepted_is, accepted_knows, as_found, refused_is}
 use Rattle.nearest.proofs.PathLaws.{reaches_agree}
-use Rattle.nearest.specs.declared.search.Nearest.TheVariants.{At, NoneWithin}
-use Rattle.nearest.specs.Nearest.{fewest_links, lowest_at, nearest_call, nearest_conditions, nearest_of}
+use Rattle.std.proofs.Common.{None, Some}
+use Rattle.nearest.specs.Nearest.{fewest_links, lowest_at, near, nearest_call, nearest_conditions, nearest_of}
 use Rattle.nearest.specs.Paths.{any_at, listed_at}
 use Rattle.packed.specs.Edges.{edge}
 use Rattle.packed.specs.Pairs.{pair_count}
@@ -29,7 +29,7 @@ module _ (g g' : Graph) (n p : ℕ) (same : Agree n g g') (hp : p < n) (listed :
   pub nearest_agree : (limit : ℕ) → nearest_of g n p listed limit ≡ nearest_of g' n p listed limit
   unfolding nearest_of fewest_links lowest_at any_at
   nearest_agree limit =
-      ap (λ (f : ℕ → ℕ → Bool). let h = least_from (λ k. any_to (f k) n) 0 (limit + 1) in cond (ltb limit h) NoneWithin (At (least_from (f h) 0 n) h))
+      ap (λ (f : ℕ → ℕ → Bool). let h = least_from (λ k. any_to (f k) n) 0 (limit + 1) in cond (ltb limit h) None (Some (near (least_from (f h) 0 n) h)))
       (fun_ext (λ h. fun_ext (listed_agree h)))
 
 pub nearest_spare : (x y : List ℕ) (n p : ℕ) (listed : List ℕ) (limit : ℕ) → SameBits (pair_count n) x y
@@ -41,7 +41,7 @@ nearest_spare x y n p listed limit same =
     elim (ℕ_discrete (refusal (nearest_conditions x n p listed)) 0) [
       | yes z ↦
           let l = (accepted_knows x n p listed z).1 in
-          sym (accepted_is x n p listed limit z refl) ∙ nearest_agree (edge x) (edge y) n p links l listed limit
+          sym (accepted_is x n p listed limit z refl) ∙ as_found (nearest_agree (edge x) (edge y) n p links l listed limit)
           ∙ accepted_is y n p listed limit (sym (ap refusal tests) ∙ z) refl
       | no d ↦ sym (refused_is x n p listed limit refl d) ∙ refused_is y n p listed limit (ap refusal tests) d
     ]

@@ -6,7 +6,7 @@ use native.Mathlib.Decide.{ℕ_discrete}
 use native.Mathlib.Nat.{lt_of_le_of_lt, lt_of_lt_of_le}
 use native.Mathlib.Omega.{arith}
 use borrow.Author.Tests.{eq-eqb, le-ltb, lt-ltb, ne_eqb}
-use lib.Bits.{and_le_l, and_le_r, bit_and, bit_or}
+use lib.Bits.{and_le_l, bit_and, bit_or}
 use lib.Count.{ones, count_trailing_zeros}
 use lib.Dec.{eqb, lit<, lit≤, ltb}
 use lib.Pow.{pow_mono, shl_exact}
@@ -86,9 +86,6 @@ last_node word k = max_run * k + max_run - 1 - count_trailing_zeros 64 word
 -- the word without it
 abbrev pub rest : ℕ → ℕ
 rest word = bit_and word (word - 1)
-
-pub rest_less : (word : ℕ) → 0 < word → rest word < word
-rest_less word some = omega (arith, and_le_r word (word - 1))
 
 module _ {word k : ℕ} (n : Nodes word k) (some : 0 < word) where
   low : LowDigit word (count_trailing_zeros 64 word)

@@ -2,17 +2,21 @@
 use mathlib.Core.Bool.{◌&&◌, and-false, Bool, false, or-false, ◌||◌}
 use mathlib.Core.List.{List}
 use mathlib.Core.Path.{ap, ap₂, sym, ◌∙◌, ◌≡◌}
-use Prim.Native.Nat.{◌%◌, ◌*◌, ◌+◌, ◌/◌, ◌<◌, ◌^◌, ℕ, zero-le, ◌≤◌}
+use Prim.Native.Nat.{◌%◌, ◌*◌, ◌+◌, ◌/◌, ◌<◌, ◌^◌, suc, zero, ℕ, zero-le, ◌≤◌}
 use native.Mathlib.Decide.{ℕ_discrete}
 use native.Mathlib.Omega.{arith}
 use borrow.Author.Tests.{eq-eqb, le-ltb, lt-ltb, ne_eqb}
 use lib.Count.{ones}
 use lib.Dec.{eqb, lit<, ltb}
-use lib.ListN.{get_or, length, length-replicate, length-set, replicate, set}
+use Rattle.std.proofs.Common.{get_or-drop, length-drop}
+use lib.ListN.{drop, get_or, length, length-replicate, length-set, replicate, set, take}
+use native.Mathlib.Numerals.{add-one}
+use Rattle.std.proofs.lemmas.List.Sums.{sum_by_more}
+use Rattle.std.specs.List.{list_any, range_with_len, sum_by}
 use lib.Pow.{pow_pos}
 use lib.Seq.{get_or-set_other, get_or-set_same}
 use Rattle.arith.proofs.Counts.{count_skip}
-use Rattle.arith.proofs.Sums.{any_to_ext, count_to_ext, sum_to_cat}
+use Rattle.arith.proofs.Sums.{any_to_ext, any_to_first, any_to_none, count_to_ext, sum_to_cat, sum_to_none}
 use Rattle.arith.specs.Sums.{any_to, bit, count_to}
 use Rattle.packed.proofs.BitLaws.{same_words, zero_at}
 use Rattle.packed.specs.Pairs.{max_nodes}
@@ -84,6 +88,28 @@ size_more rows p k t e =
     let at : k ≡ (max_run * k + j) / max_run = omega arith in
     ap (λ i. in_word (get_or rows (strips * p + i) 0) (max_run * k + j)) at))
     ∙ sym (sum_to_cat (λ q. bit (in_row rows p q)) (max_run * k) max_run) ∙ ap (count_to (in_row rows p)) more
+
+-- a row's words
+pub row_ones : (rows : List ℕ) (p : ℕ) → p < max_nodes → Table rows → (k : ℕ) → k ≤ strips
+    → sum_by ones (take k (drop (strips * p) rows)) ≡ count_to (in_row rows p) (max_run * k)
+row_ones rows p h t zero l = sym (sum_to_none _)
+row_ones rows p h t (suc k) l =
+    let row : List ℕ = drop (strips * p) rows in
+    let next : k + 1 ≡ suc k = add-one k in
+    let inside : k < length row = omega (arith, t.long, length-drop {A = ℕ}) in
+    ap (λ m. sum_by ones (take m row)) (sym next) ∙ sum_by_more ones row k 0 inside
+    ∙ ap (λ w. sum_by ones (take k row) + ones w) (get_or-drop (strips * p) rows k 0) ∙ size_more rows p k t (row_ones rows p h t k (omega arith))
+    ∙ ap (λ m. count_to (in_row rows p) (max_run * m)) next
+
+-- a test of the numbers from a on, and of those below n
+any_from : (test : ℕ → Bool) (a n : ℕ) → list_any test (range_with_len a n) ≡ any_to (λ i. test (a + i)) n
+any_from test a zero = sym (any_to_none _)
+any_from test a (suc n) =
+    ap (λ b. test a || b) (any_from test (a + 1) n ∙ any_to_ext _ _ n (λ i _. ap test (omega arith)))
+    ∙ ap (λ x. test x || any_to (λ i. test (a + suc i)) n) (omega arith) ∙ sym (any_to_first (λ i. test (a + i)) n)
+
+pub any_range : (test : ℕ → Bool) (n : ℕ) → list_any test (range_with_len 0 n) ≡ any_to test n
+any_range test n = any_from test 0 n ∙ any_to_ext _ _ n (λ i _. ap test (omega arith))
 
 -- whether one of the n nodes has too many links
 pub rows_crowded : (g : Graph) (n : ℕ) (rows : List ℕ) → n ≤ max_nodes → Rows g n rows

@@ -5,8 +5,8 @@ use Rattle.arith.specs.Lists.{range}
 use Rattle.packed.specs.Edges.{edge, with_edge}
 use Rattle.ego.specs.Graph.{Graph, Walk}
 use Rattle.state.specs.Refusal.{refusal}
-use Rattle.nearest.specs.Nearest.{nearest_call, nearest_conditions}
-use Rattle.nearest.specs.declared.search.Nearest.TheVariants.{At, NoneWithin, Refused}
+use Rattle.state.specs.Answers.{At, Nowhere, Refused}
+use Rattle.nearest.specs.Nearest.{near, nearest_call, nearest_conditions}
 
 -- A path of h links leads from u to v over the whole board: a walk of h + 1 nodes, inside all n of them.
 pub record Path (g : Graph) (n h u v : ℕ) : Type 0 where
@@ -38,10 +38,10 @@ pub record NearestListed : Type 0 where
       → ((q : ℕ) × (h : ℕ) × Answers g n p listed limit q h) ↔ Reached g n p listed limit
   -- The call says it,
   pub found : (edges : List ℕ) (n p : ℕ) (listed : List ℕ) (limit q h : ℕ) → refusal (nearest_conditions edges n p listed) ≡ 0
-      → (nearest_call edges n p listed limit ≡ At q h) ↔ Answers (edge edges) n p listed limit q h
+      → (nearest_call edges n p listed limit ≡ At (near q h)) ↔ Answers (edge edges) n p listed limit q h
   -- none exactly if no path that short reaches a listed post,
   pub none : (edges : List ℕ) (n p : ℕ) (listed : List ℕ) (limit : ℕ) → refusal (nearest_conditions edges n p listed) ≡ 0
-      → (nearest_call edges n p listed limit ≡ NoneWithin) ↔ (Reached (edge edges) n p listed limit → ⊥)
+      → (nearest_call edges n p listed limit ≡ Nowhere) ↔ (Reached (edge edges) n p listed limit → ⊥)
   -- and otherwise it is refused.
   pub refused : (edges : List ℕ) (n p : ℕ) (listed : List ℕ) (limit : ℕ) → refusal (nearest_conditions edges n p listed) ≢ 0
       → nearest_call edges n p listed limit ≡ Refused (refusal (nearest_conditions edges n p listed))
@@ -50,16 +50,16 @@ pub record NearestListed : Type 0 where
 pub record NearestChanges : Type 0 where
   -- A larger limit never loses an answer and never changes one.
   pub larger : (edges : List ℕ) (n p : ℕ) (listed : List ℕ) (limit more q h : ℕ) → limit ≤ more
-      → nearest_call edges n p listed limit ≡ At q h → nearest_call edges n p listed more ≡ At q h
+      → nearest_call edges n p listed limit ≡ At (near q h) → nearest_call edges n p listed more ≡ At (near q h)
   -- Adding a link never lengthens.
   pub added : (edges : List ℕ) (n p : ℕ) (listed : List ℕ) (limit a b q h : ℕ) → a < n → b < n
-      → refusal (nearest_conditions (with_edge edges a b true) n p listed) ≡ 0 → nearest_call edges n p listed limit ≡ At q h
-      → (r : ℕ) × (k : ℕ) × (nearest_call (with_edge edges a b true) n p listed limit ≡ At r k) × (k ≤ h)
+      → refusal (nearest_conditions (with_edge edges a b true) n p listed) ≡ 0 → nearest_call edges n p listed limit ≡ At (near q h)
+      → (r : ℕ) × (k : ℕ) × (nearest_call (with_edge edges a b true) n p listed limit ≡ At (near r k)) × (k ≤ h)
   -- A listed seat is 0 hops away, whatever the limit.
   pub seat : (edges : List ℕ) (n p : ℕ) (listed : List ℕ) (limit : ℕ) → refusal (nearest_conditions edges n p listed) ≡ 0 → Memᴰ p listed
-      → nearest_call edges n p listed limit ≡ At p 0
+      → nearest_call edges n p listed limit ≡ At (near p 0)
   -- An empty list gives none.
-  pub empty : (edges : List ℕ) (n p limit : ℕ) → refusal (nearest_conditions edges n p []) ≡ 0 → nearest_call edges n p [] limit ≡ NoneWithin
+  pub empty : (edges : List ℕ) (n p limit : ℕ) → refusal (nearest_conditions edges n p []) ≡ 0 → nearest_call edges n p [] limit ≡ Nowhere
   -- A limit of 255 finds every post that can be reached: where it finds none, no path of any length leads to a listed post.
-  pub far : (edges : List ℕ) (n p : ℕ) (listed : List ℕ) (h : ℕ) → nearest_call edges n p listed 255 ≡ NoneWithin
+  pub far : (edges : List ℕ) (n p : ℕ) (listed : List ℕ) (h : ℕ) → nearest_call edges n p listed 255 ≡ Nowhere
       → (q : ℕ) → Memᴰ q listed → Path (edge edges) n h p q → ⊥

@@ -1,30 +1,26 @@
 // The call that finds the nearest listed node.
-ghost use Rattle.std.specs.Prelude.{map, ◌∷◌, ◌≡◌, ℕ, ◌<◌, ◌≤◌, get_or, length};
+ghost use Rattle.std.specs.Prelude.{map, ◌∷◌, ◌≡◌, ℕ, ◌<◌, get_or, length};
 ghost use Rattle.arith.specs.Lists.{elem};
 ghost use Rattle.packed.specs.Pairs.{max_nodes};
+ghost use Rattle.state.specs.Answers.{found, refusal_of};
 ghost use Rattle.state.specs.Refusal.{node_number, refusal};
 ghost use Rattle.nearest.specs.Nearest.{answer_of, nearest_call, numbers_of};
 ghost use Rattle.nearest.specs.Inside.Strips.{SetOf};
 
-use crate::search::{Nearest, search};
-use crate::strips::{Strips, empty, with};
+use crate::search::{Near, search};
+use crate::strips::{Strips, empty, insert};
 use crate::table::{TABLE_WORDS, any_crowded, link_rows};
-use state::refusal::{CROWDED_BEFORE, NODE};
-use state::sizes::edge_refusal;
+use state::refusal::Refusal;
+use state::sizes::check_edges;
 
 // Refusal 4 of node p and of the listed ones.
-fn node_refusal(n: usize, p: usize, listed: &[u64]) -> u64
-    ensures { result ≡ refusal (node_number n p ∷ map (node_number n) listed.now) }
+fn check_nodes(n: usize, p: usize, listed: &[u64]) -> Result<(), Refusal>
+    ensures { refusal_of result ≡ refusal (node_number n p ∷ map (node_number n) listed.now) }
 {
-    if n <= p {
-        return NODE;
+    if n <= p || listed.iter().any(|&q| n as u64 <= q) {
+        return Err(Refusal::Node);
     }
-    for i in 0..listed.len() {
-        if n as u64 <= listed[i] {
-            return NODE;
-        }
-    }
-    0
+    Ok(())
 }
 
 // The listed nodes as a set.
@@ -33,31 +29,28 @@ fn set_of(listed: &[u64]) -> Strips
     ensures { SetOf result (λ q. elem q listed.now) }
 {
     let mut set = empty();
-    for i in 0..listed.len() {
-        let more = with(set, listed[i] as usize);
-        set = more;
+    for &q in listed {
+        insert(&mut set, q as usize);
     }
     set
 }
 
 // The listed node that is reached from node p over the fewest links, at most `limit` of them; of several the lowest.
-pub fn nearest_listed(edges: &[u8], n: usize, p: usize, listed: &[u64], limit: u8) -> Nearest
-    ensures { (result ≡ nearest_call edges.now n p listed.now limit) × (numbers_of result ≡ answer_of edges.now n p listed.now limit) }
+pub fn nearest_listed(
+    edges: &[u8],
+    n: usize,
+    p: usize,
+    listed: &[u64],
+    limit: u8,
+) -> Result<Option<Near>, Refusal>
+    ensures { (found result ≡ nearest_call edges.now n p listed.now limit) × (numbers_of (found result) ≡ answer_of edges.now n p listed.now limit) }
 {
-    let lengths = edge_refusal(n, edges.len());
-    if lengths != 0 {
-        return Nearest::Refused { refusal: lengths };
-    }
-    let nodes = node_refusal(n, p, listed);
-    if nodes != 0 {
-        return Nearest::Refused { refusal: nodes };
-    }
+    check_edges(n, edges.len())?;
+    check_nodes(n, p, listed)?;
     let mut rows = [0u64; TABLE_WORDS];
-    link_rows(edges, &mut rows[..], n);
-    if any_crowded(&rows[..], n) {
-        return Nearest::Refused {
-            refusal: CROWDED_BEFORE,
-        };
+    link_rows(edges, &mut rows, n);
+    if any_crowded(&rows, n) {
+        return Err(Refusal::CrowdedBefore);
     }
-    search(&rows[..], set_of(listed), p, limit)
+    Ok(search(&rows, set_of(listed), p, limit))
 }

@@ -1,17 +1,15 @@
 // Sets of nodes by value, as words of 56 bits, a strip of nodes each, the first node the highest: a run of a node's packed bits is such a word.
 ghost use Rattle.std.specs.Prelude.{false, not, ◌&&◌, ◌||◌, ◌≡◌, ◌-◌, ◌%◌, ◌^◌, ◌<◌, eqb};
 ghost use Rattle.packed.specs.Inside.Runs.{max_run};
-ghost use Rattle.packed.specs.Inside.Search.{FirstFrom};
+ghost use Rattle.packed.specs.Inside.Search.{FirstIn};
 ghost use Rattle.nearest.specs.Inside.Strips.{in_strips, Narrow, places, SetOf};
 
 use packed::bits::first_one;
 use packed::runs::MAX_RUN;
+use std::array;
 
 // The words of a set.
 pub const STRIPS: usize = 5;
-
-// The places for nodes in a set: no node has this number.
-pub const PLACES: usize = MAX_RUN * STRIPS;
 
 pub type Strips = [u64; STRIPS];
 
@@ -29,14 +27,12 @@ pub(crate) fn empty() -> Strips
     [0u64; STRIPS]
 }
 
-// A set with node q.
-pub(crate) fn with(set: Strips, q: usize) -> Strips
-    requires { (q < places) × Narrow set }
-    ensures { SetOf result (λ x. in_strips set x || eqb x q) }
+// Puts node q into a set.
+pub(crate) fn insert(set: &mut Strips, q: usize)
+    requires { (q < places) × Narrow set.old }
+    ensures { SetOf set.new (λ x. in_strips set.old x || eqb x q) }
 {
-    let mut r = set;
-    r[q / MAX_RUN] = r[q / MAX_RUN] | bit_of(q);
-    r
+    set[q / MAX_RUN] |= bit_of(q);
 }
 
 // The nodes that two sets have in common.
@@ -44,47 +40,37 @@ pub(crate) fn both(x: Strips, y: Strips) -> Strips
     requires { Narrow x }
     ensures { SetOf result (λ q. in_strips x q && in_strips y q) }
 {
-    let mut r = [0u64; STRIPS];
-    for k in 0..STRIPS {
-        r[k] = x[k] & y[k];
-    }
-    r
+    array::from_fn(|k| x[k] & y[k])
 }
 
-// The nodes that one of two sets has, or both.
-pub(crate) fn either(x: Strips, y: Strips) -> Strips
-    requires { Narrow x × Narrow y }
-    ensures { SetOf result (λ q. in_strips x q || in_strips y q) }
+// Puts the nodes of another set into a set.
+pub(crate) fn unite(set: &mut Strips, other: Strips)
+    requires { Narrow set.old × Narrow other }
+    ensures { SetOf set.new (λ q. in_strips set.old q || in_strips other q) }
 {
-    let mut r = [0u64; STRIPS];
     for k in 0..STRIPS {
-        r[k] = x[k] | y[k];
+        set[k] |= other[k];
     }
-    r
 }
 
 // The nodes of x that y has not.
 pub(crate) fn without(x: Strips, y: Strips) -> Strips
-    requires { Narrow x }
+    requires { Narrow x × Narrow y }
     ensures { SetOf result (λ q. in_strips x q && not (in_strips y q)) }
 {
-    let mut r = [0u64; STRIPS];
-    for k in 0..STRIPS {
-        r[k] = x[k] ^ (x[k] & y[k]);
-    }
-    r
+    array::from_fn(|k| x[k] & !y[k])
 }
 
-// The lowest node of a set, and PLACES where it has none.
-pub(crate) fn first_of(set: Strips) -> usize
+// The lowest node of a set.
+pub(crate) fn first_of(set: Strips) -> Option<usize>
     requires { Narrow set }
-    ensures { FirstFrom (in_strips set) 0 places result }
+    ensures { FirstIn (in_strips set) 0 places result }
 {
     for k in 0..STRIPS {
         let found = first_one(set[k], 64 - MAX_RUN);
         if found < 64 {
-            return MAX_RUN * k + (found - (64 - MAX_RUN));
+            return Some(MAX_RUN * k + (found - (64 - MAX_RUN)));
         }
     }
-    PLACES
+    None
 }

@@ -12,7 +12,7 @@ ghost use Rattle.nearest.specs.Inside.Strips.{in_row, in_strip, places, Rows, st
 use crate::strips::{STRIPS, bit_of};
 use ego::limits::LIMIT;
 use packed::edges::{MAX_NODES, row_start};
-use packed::runs::{MAX_RUN, least, run_of};
+use packed::runs::{MAX_RUN, run_of};
 
 // The words of a row for each node that a graph may have.
 pub const TABLE_WORDS: usize = STRIPS * MAX_NODES;
@@ -22,7 +22,7 @@ fn word_below(edges: &[u8], b: usize, k: usize) -> u64
     requires { Room (b + 1) edges.now × (max_run * k < b) }
     ensures { result ≡ word_of (λ y. ltb y b && edge edges.now b y) (max_run * k) max_run }
 {
-    let count = least(b - MAX_RUN * k, MAX_RUN);
+    let count = (b - MAX_RUN * k).min(MAX_RUN);
     run_of(edges, row_start(b) + MAX_RUN * k, count) << (MAX_RUN - count)
 }
 
@@ -36,9 +36,9 @@ fn mirror(rows: &mut [u64], word: u64, k: usize, b: usize)
     let end = MAX_RUN * k + MAX_RUN;
     let mut left = word;
     while left != 0 {
-        let a = end - 1 - u64::trailing_zeros(left) as usize;
-        rows[STRIPS * a + column] = rows[STRIPS * a + column] | bit;
-        left = left & (left - 1);
+        let a = end - 1 - left.trailing_zeros() as usize;
+        rows[STRIPS * a + column] |= bit;
+        left &= left - 1;
     }
 }
 
@@ -47,12 +47,10 @@ fn link_row(edges: &[u8], rows: &mut [u64], b: usize)
     requires { Room (b + 1) edges.now × Rows (edge edges.now) b rows.old }
     ensures { Rows (edge edges.now) (b + 1) rows.new }
 {
-    let mut k: usize = 0;
-    while MAX_RUN * k < b {
+    for k in 0..b.div_ceil(MAX_RUN) {
         let word = word_below(edges, b, k);
         rows[STRIPS * b + k] = word;
         mirror(rows, word, k, b);
-        k += 1;
     }
 }
 
@@ -71,11 +69,8 @@ fn row_size(rows: &[u64], p: usize) -> usize
     requires { (p < max_nodes) × Table rows.now }
     ensures { result ≡ count_to (in_row rows.now p) places }
 {
-    let mut size: usize = 0;
-    for k in 0..STRIPS {
-        size += u64::count_ones(rows[STRIPS * p + k]) as usize;
-    }
-    size
+    let row = &rows[STRIPS * p..STRIPS * p + STRIPS];
+    row.iter().map(|word| word.count_ones() as usize).sum()
 }
 
 // Whether a row of the n nodes has more nodes than the limit.
@@ -83,10 +78,5 @@ pub(crate) fn any_crowded(rows: &[u64], n: usize) -> bool
     requires { (n ≤ max_nodes) × Table rows.now }
     ensures { result ≡ any_to (λ p. ltb limit (count_to (in_row rows.now p) places)) n }
 {
-    for p in 0..n {
-        if LIMIT < row_size(rows, p) {
-            return true;
-        }
-    }
-    false
+    (0..n).any(|p| LIMIT < row_size(rows, p))
 }

@@ -20,8 +20,9 @@ use Rattle.arith.proofs.Words.{bit_mod, past_top}
 use Rattle.arith.specs.Digits.{bit_of, digit}
 use Rattle.arith.specs.Lists.{least_from}
 use Rattle.packed.proofs.RunLaws.{run_at, run_bit, run_cat, run_lt, shifted_one}
+use Rattle.std.proofs.Common.{Option, Some, None}
 use Rattle.packed.specs.Bits.{bit_at, differ, run_of, word_of}
-use Rattle.packed.specs.Inside.Search.{FirstFrom, other_word, WordHas}
+use Rattle.packed.specs.Inside.Search.{FirstFrom, FirstIn, other_word, WordHas}
 
 -- ---- `FirstFrom` fixes one number
 
@@ -73,6 +74,13 @@ module _ (passes : ℕ → Bool) where
 
   pub first_unique : {from to r r' : ℕ} → FirstFrom passes from to r → FirstFrom passes from to r' → r ≡ r'
   first_unique f g = first_least f ∙ sym (first_least g)
+
+  -- and `FirstIn` one answer
+  pub first_in_unique : (from to : ℕ) {o o' : Option ℕ} → FirstIn passes from to o → FirstIn passes from to o' → o ≡ o'
+  first_in_unique from to {o = Some r} {o' = Some r'} f g = ap Some (first_unique f.0 g.0)
+  first_in_unique from to {o = Some r} {o' = None} f g = absurd (omega (arith, first_unique f.0 g, f.1))
+  first_in_unique from to {o = None} {o' = Some r'} f g = absurd (omega (arith, first_unique f g.0, g.1))
+  first_in_unique from to {o = None} {o' = None} f g = refl
 
 -- ---- in a word
 

@@ -1,6 +1,7 @@
 pub mod BitLaws
 pub mod DegreeLaws
 pub mod EdgeLaws
+pub mod FieldLaws
 pub mod FirstLaws
 pub mod GraphLaws
 pub mod PairLaws

@@ -96,10 +96,6 @@ module _ (x y a b : ℕ) where
   unfolding same_pair
   same_first d e = sym (rw (eq-eqb x a e, ne_eqb y a (λ q. d (e ∙ sym q)), and-false (eqb x b)) (or-false (eqb y b)))
 
-  pub same_second : x ≢ a → x ≡ b → eqb y a ≡ same_pair x y a b
-  unfolding same_pair
-  same_second d e = sym (rw (ne_eqb x a d, eq-eqb x b e))
-
   pub same_neither : x ≢ a → x ≢ b → false ≡ same_pair x y a b
   unfolding same_pair
   same_neither d e = sym (rw (ne_eqb x a d, ne_eqb x b e))

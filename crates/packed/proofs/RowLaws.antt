@@ -3,7 +3,7 @@
 use mathlib.Core.List.{List}
 use mathlib.Core.Path.{ap, refl, sym, ◌∙◌, ◌≡◌}
 use Prim.Native.Nat.{◌*◌, ◌+◌, ◌-◌, ◌/◌, ◌<◌, ℕ, ◌≤◌}
-use native.Mathlib.Nat.{le_of_lt, max-eq_left, max-eq_right, min-eq_left, min-eq_right, mul-le-mul}
+use native.Mathlib.Nat.{le_of_lt, max-eq_left, max-eq_right, min-eq_left, min-eq_right}
 use native.Mathlib.Numerals.{add-one}
 use native.Mathlib.Omega.{arith}
 use lib.ListN.{length}
@@ -16,9 +16,6 @@ use Rattle.packed.specs.Pairs.{max_nodes, pair_count, pair_index}
 use Rattle.packed.specs.Inside.Room.{Room}
 
 -- ---- what the code computes: `(p * p - p) / 2`
-
-pub square_few : (p : ℕ) → p ≤ max_nodes → p * p ≤ 65536
-square_few p h = mul-le-mul {n₂ = 256} {m₂ = 256} h h
 
 pub start_is : (p : ℕ) → (p * p - p) / 2 ≡ pair_count p
 unfolding pair_count

@@ -16,6 +16,9 @@ use Rattle.arith.specs.Digits.{bit_of, digit}
 use Rattle.arith.specs.Sums.{any_to, bit}
 use Rattle.packed.proofs.BitLaws.{bit_back, bit_two}
 use Rattle.packed.specs.Bits.{bit_at, run_of, word_of}
+use Rattle.packed.specs.Inside.Bytes.{Bytes}
+use Rattle.std.specs.Int.{from_be_bytes, w64}
+use Rattle.std.proofs.Common.{drop, get_or-drop, get_or-take, take}
 
 pub run_none : (f : ℕ → Bool) (from : ℕ) → word_of f from 0 ≡ 0
 unfolding word_of
@@ -144,9 +147,35 @@ high_digits bs k (suc j) h l =
 pub run_byte : (bs : List ℕ) (k : ℕ) → get_or bs k 0 < 256 → run_of bs (8 * k) 8 ≡ get_or bs k 0
 run_byte bs k h = high_digits bs k 8 h (le_refl 8) ∙ omega arith
 
+-- one byte more
+run_next : (bs : List ℕ) (k n : ℕ) → get_or bs (k + n) 0 < 256 → run_of bs (8 * k) (8 * (n + 1)) ≡ run_of bs (8 * k) (8 * n) * 256 + get_or bs (k + n) 0
+run_next bs k n h =
+    let all : 8 * n + 8 ≡ 8 * (n + 1) = omega arith in
+    let at : 8 * k + 8 * n ≡ 8 * (k + n) = omega arith in
+    ap (run_of bs (8 * k)) (sym all) ∙ run_cat (bit_at bs) (8 * k) (8 * n) 8
+    ∙ ap (λ y. run_of bs (8 * k) (8 * n) * 256 + y) (ap (λ i. run_of bs i 8) at ∙ run_byte bs (k + n) h)
+
+-- the bytes of `bits[k..k + n]`
+pub chunk_at : (bs : List ℕ) (k n : ℕ) {chunk : List ℕ} → chunk ≡ take (k + n - k) (drop k bs) → (i : ℕ) → i < n → get_or chunk i 0 ≡ get_or bs (k + i) 0
+chunk_at bs k n e i h =
+    let within : i < k + n - k = omega arith in
+    ap (λ l. get_or l i 0) e ∙ rw (get_or-take, get_or-drop)
+
 -- past the end there are zeros
 pub run_past : (bs : List ℕ) (k : ℕ) → length bs ≤ k → run_of bs (8 * k) 8 ≡ 0
 run_past bs k h = let e = get_or-eq_default bs 0 h in run_byte bs k (rw e (lit< tt)) ∙ e
+
+-- the bytes from byte k on, and zeros past the end
+module _ (bs word : List ℕ) (k : ℕ) (bytes : Bytes bs) where
+  next : (n : ℕ) → run_of bs (8 * k) (8 * (n + 1)) ≡ run_of bs (8 * k) (8 * n) * 256 + get_or bs (k + n) 0
+  next n = run_next bs k n (bytes (k + n))
+
+  first_four : run_of bs (8 * k) 32 ≡ get_or bs (k + 0) 0 * 16777216 + get_or bs (k + 1) 0 * 65536 + get_or bs (k + 2) 0 * 256 + get_or bs (k + 3) 0
+  first_four = omega (arith, run_none (bit_at bs) (8 * k), next 0, next 1, next 2, next 3)
+
+  pub run_eight : ((i : ℕ) → i < 8 → get_or word i 0 ≡ get_or bs (k + i) 0) → from_be_bytes w64 word ≡ run_of bs (8 * k) 64
+  run_eight same =
+      omega (arith, first_four, next 4, next 5, next 6, next 7, same 0 (lit< tt), same 1 (lit< tt), same 2 (lit< tt), same 3 (lit< tt), same 4 (lit< tt), same 5 (lit< tt), same 6 (lit< tt), same 7 (lit< tt))
 
 -- `u << 8 * b | v`, of a bytes and the b after them
 pub run-or : (bs : List ℕ) (k a b : ℕ) {u v : ℕ} → 8 * a + 8 * b ≤ 64 → u ≡ run_of bs (8 * k) (8 * a) → v ≡ run_of bs (8 * (k + a)) (8 * b)
@@ -160,12 +189,3 @@ run-or bs k a b h eu ev =
     ∙ ap (λ z. bit_or z y) (shl_exact (8 * a) (8 * b) 64 (run_lt (bit_at bs) (8 * k) (8 * a)) h)
     ∙ or_shifted x (8 * b) y (run_lt (bit_at bs) (8 * k + 8 * a) (8 * b))
     ∙ sym (run_cat (bit_at bs) (8 * k) (8 * a) (8 * b)) ∙ ap (run_of bs (8 * k)) all
-
--- four bytes, and of the four that end m bytes further those that follow: `u << 8 * m | v % 2 ^ (8 * m)`
-pub run_more : (bs : List ℕ) (k m : ℕ) {u v w : ℕ} → m < 4 → u ≡ run_of bs (8 * k) 32 → v ≡ run_of bs (8 * (k + m)) 32 → w ≡ v / 2 ^ 0 % 2 ^ (8 * m)
-    → bit_or (u * 2 ^ (8 * m) % 2 ^ 64) w ≡ run_of bs (8 * k) (8 * (4 + m))
-run_more bs k m h eu ev ew =
-    let all : 32 ≡ 32 - 8 * m + 8 * m + 0 = omega arith in
-    let at : 8 * (k + m) + (32 - 8 * m) ≡ 8 * (k + 4) = omega arith in
-    run-or bs k 4 m (omega arith) eu
-    (run_field bs (8 * (k + m)) (32 - 8 * m) (8 * m) 0 (ev ∙ ap (run_of bs (8 * (k + m))) all) ew ∙ ap (λ i. run_of bs i (8 * m)) at)

@@ -5,20 +5,22 @@ use mathlib.Core.Logic.{◌≢◌}
 use mathlib.Core.Path.{ap, ap₂, fun_ext, refl, sym, ◌∙◌, ◌≡◌}
 use Prim.Native.Nat.{◌%◌, ◌*◌, ◌+◌, ◌-◌, ◌/◌, ◌<◌, ◌^◌, min, suc, zero, zero-le, ℕ, ◌≤◌}
 use native.Mathlib.Decide.{dec_lt, ℕ_discrete}
-use native.Mathlib.Nat.{le_antisymm, le_refl, mod-eq_of_lt, one-mul, sub-zero}
+use native.Mathlib.Nat.{le_refl, mod-eq_of_lt, one-mul, sub-zero}
 use native.Mathlib.Omega.{arith}
 use borrow.Author.Tests.{le-ltb, lt-ltb}
 use lib.Bits.{bit_and, bit_or}
 use lib.Count.{ones, ones_cat}
 use lib.Dec.{lit<, ltb}
-use lib.ListN.{get_or, get_or-replicate, length, length-append, length-set, replicate, set}
+use lib.ListN.{get_or, get_or-append, get_or-replicate, length, length-append, length-set, replicate, set}
 use lib.Pow.{pow-lt, shl_exact}
-use lib.Seq.{length-sets, sets}
+use lib.Seq.{ext_get_or, length-sets, sets}
+use Rattle.std.proofs.Common.{drop, get_or-drop, length-drop, length-take, take}
+use Rattle.std.proofs.lemmas.List.{get_or-append_right}
 use Rattle.arith.proofs.Counts.{count_skip}
 use Rattle.arith.proofs.Filter.{count_most, filter-append, filter_mem}
 use Rattle.arith.proofs.Padded.{sets_append, sets_past}
 use Rattle.arith.proofs.Range.{filter_hit, filter_skip, length_range, mem_range, range-append}
-use Rattle.arith.proofs.Sums.{count_to_ext, fill_rest, get_d_tabulate, length_tabulate, sum_to_cat}
+use Rattle.arith.proofs.Sums.{count_to_ext, fill_end, fill_length, fill_rest, get_d_tabulate, get_or_fill_to, get_or_fill_to_past, fill_to_none, Filling, filling_length, length_fill_to, length_tabulate, sum_to_cat}
 use Rattle.arith.proofs.Words.{bit-and, bit-or, bits_eq, pack_is, pack_lt}
 use Rattle.arith.proofs.Digits.{or_is}
 use Rattle.arith.specs.Digits.{bit_of, with_digit}
@@ -32,6 +34,29 @@ use Rattle.packed.specs.Bits.{word_of}
 use Rattle.packed.specs.Edges.{edge}
 use Rattle.packed.specs.Pairs.{max_nodes}
 use Rattle.packed.specs.Inside.Rows.{both_of, either_of, in_set, in_word, members_in, members_of, row_of, set_of, with_node}
+
+-- ---- a loop that fills the first n places of a list
+
+pub front_none : {A : Type 0} (f : ℕ → A) (zs : List A) (n : ℕ) → n ≤ length zs → Filling f (take n zs) n (take n zs) 0
+front_none f zs n h = record { most = zero-le; all = omega (arith, length-take n zs); done = sym (fill_to_none f (take n zs)) }
+
+-- the places from n on are as they were
+pub fill_front : {A : Type 0} (f : ℕ → A) (zs : List A) (d : A) (n : ℕ) {made : List A} {i : ℕ} → n ≤ length zs → Filling f (take n zs) n made i → length made ≤ i
+    → made ++ drop n zs ≡ fill_to f zs n
+fill_front f zs d n {made} h w stop =
+    let e = fill_end f (take n zs) w.most (omega (arith, w.all, filling_length w)) w.done in
+    let front : length (take n zs) ≡ n = omega (arith, length-take n zs) in
+    let long : length made ≡ n = fill_length f (take n zs) n e ∙ front in
+    let whole : length (made ++ drop n zs) ≡ length zs = omega (arith, length-append made (drop n zs), length-drop n zs, long) in
+    ext_get_or d (made ++ drop n zs) (fill_to f zs n) (whole ∙ sym (length_fill_to f zs n)) (λ i b. elim (dec_lt i n) [
+      | yes l ↦
+          get_or-append made (drop n zs) d i (omega (arith, long)) ∙ ap (λ l. get_or l i d) e
+          ∙ get_or_fill_to f (take n zs) d n i l (omega (arith, front)) ∙ sym (get_or_fill_to f zs d n i l h)
+      | no l ↦
+          let at : n + (i - n) ≡ i = omega arith in
+          get_or-append_right made (drop n zs) n i d long (omega arith) ∙ rw get_or-drop (ap (λ j. get_or zs j d) at)
+          ∙ sym (get_or_fill_to_past f zs d n i (omega arith))
+    ])
 
 -- ---- a word
 
@@ -166,12 +191,6 @@ module _ {row nodes₀ nodes : List ℕ} {count at k : ℕ} (w : Appended row no
         put = e.0 ∙ ap₂ (λ l i. sets l i new) w.put w.place ∙ sets_append nodes₀ count old new ∙ ap (sets nodes₀ count) (members_more row k);
         place = omega (arith, e.1, w.place, length-append old new, ap length (members_more row k));
       }
-
-  pub append_end : {words : ℕ} → k ≤ words → words ≤ k
-      → (nodes ≡ sets nodes₀ count (members_of row (32 * words))) × (at ≡ count + length (members_of row (32 * words)))
-  append_end a b =
-      let end = ap (λ m. members_of row (32 * m)) (le_antisymm a b) in
-      (w.put ∙ ap (sets nodes₀ count) end, w.place ∙ ap (λ l. count + length l) end)
 
 -- ---- the set of the nodes that pass a test
 

@@ -1,13 +1,15 @@
 -- The laws of a pair's place in a window. Assumes nothing.
 use mathlib.Core.Bool.{◌&&◌}
 use mathlib.Core.Logic.{inl, inr, ◌⊎◌, ◌≢◌}
-use mathlib.Core.Path.{◌≡◌}
+use mathlib.Core.Path.{sym, ◌∙◌, ◌≡◌}
 use Prim.Native.Nat.{◌+◌, ◌-◌, ◌<◌, ℕ, ◌≤◌}
 use native.Mathlib.Omega.{arith}
 use borrow.Author.Tests.{le-leb, le-ltb, leb-true, lt-leb, lt-ltb, ltb-true}
 use lib.Dec.{leb, ltb}
 use Rattle.arith.proofs.Tests.{and-true, test}
-use Rattle.packed.specs.Inside.Windows.{place_in, window}
+use Rattle.std.proofs.Common.{Option, Some, None}
+use Rattle.std.proofs.lemmas.Option.{cond_some, none-some}
+use Rattle.packed.specs.Inside.Windows.{place_in, placed, window}
 
 -- the pair of number p is in the window
 pub record Inside (start p : ℕ) : Type 0 where
@@ -41,3 +43,22 @@ module _ (start p : ℕ) where
 
   pub place_inside : place_in start p ≢ window → Inside start p
   place_inside d = elim place-or [ inl i ↦ i | inr e ↦ absurd (d e) ]
+
+-- ---- the place that code finds
+
+module _ (start p : ℕ) {o : Option ℕ} (e : o ≡ placed start p) where
+  pub placed_some : {k : ℕ} → o ≡ Some k → (start ≤ p) × (p ≡ start + k) × (k < window) × (place_in start p ≡ k)
+  unfolding placed place_in
+  placed_some {k} f =
+      let s = cond_some (leb start p && ltb p (start + window)) (p - start) k (sym e ∙ f) in
+      let b = and-true (leb start p) (ltb p (start + window)) s.0 in
+      let low : start ≤ p = leb-true _ _ b.0 in
+      let high : p < start + window = ltb-true _ _ b.1 in
+      (low, omega (arith, s.1), omega (arith, s.1), rw s.0 s.1)
+
+  pub placed_none : o ≡ None → place_in start p ≡ window
+  unfolding placed place_in
+  placed_none f = elim (test (leb start p && ltb p (start + window))) [
+    | inl t ↦ absurd (none-some (p - start) (sym f ∙ e ∙ rw t))
+    | inr t ↦ rw t
+  ]

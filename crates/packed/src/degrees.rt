@@ -7,7 +7,7 @@ ghost use Rattle.packed.specs.Inside.Runs.{max_run};
 ghost use Rattle.packed.specs.Inside.Degrees.{Counted, degrees_from, degrees_of, degrees_to, InRow, moved, Placed, shifted, Shiftable};
 
 use crate::edges::{MAX_NODES, row_start};
-use crate::runs::{MAX_RUN, least, run_of};
+use crate::runs::{MAX_RUN, run_of};
 
 // Counts the edges of node b to the nodes from `at` up to `end` at these nodes, the first place being that of node `first`, and returns how many
 // they are. The last node comes first: its bit is the lowest.
@@ -18,10 +18,10 @@ fn count_run(edges: &[u8], counts: &mut [u16], first: usize, b: usize, at: usize
     let mut own: u16 = 0;
     let mut left = run_of(edges, row_start(b) + at, end - at);
     while left != 0 {
-        let place = end - first - 1 - u64::trailing_zeros(left) as usize;
-        counts[place] = counts[place] + 1;
+        let place = end - first - 1 - left.trailing_zeros() as usize;
+        counts[place] += 1;
         own += 1;
-        left = left & (left - 1);
+        left &= left - 1;
     }
     own
 }
@@ -34,7 +34,7 @@ fn ones_before(edges: &[u8], b: usize, k: usize) -> u16
     let start = row_start(b);
     let mut own: u16 = 0;
     for i in 0..k {
-        own += u64::count_ones(run_of(edges, start + MAX_RUN * i, MAX_RUN)) as u16;
+        own += run_of(edges, start + MAX_RUN * i, MAX_RUN).count_ones() as u16;
     }
     own
 }
@@ -47,8 +47,9 @@ fn count_row(edges: &[u8], counts: &mut [u16], k: usize, b: usize)
     let first = MAX_RUN * k;
     let mut own = ones_before(edges, b, k);
     let mut at = first;
+    // No `for` over the strips: the division that counts them takes a list a tenth longer.
     while at < b {
-        let end = at + least(b - at, MAX_RUN);
+        let end = at + MAX_RUN.min(b - at);
         own += count_run(edges, counts, first, b, at, end);
         at = end;
     }
@@ -71,7 +72,7 @@ fn count_past(edges: &[u8], counts: &mut [u16], first: usize, n: usize)
     ensures { counts.new ≡ degrees_from edges.now first max_run n }
 {
     let end = first + MAX_RUN;
-    for b in least(n, end)..n {
+    for b in n.min(end)..n {
         count_run(edges, counts, first, b, first, end);
     }
 }
@@ -83,18 +84,19 @@ pub fn strip_of(edges: &[u8], n: usize, k: usize) -> [u16; MAX_RUN]
 {
     let first = MAX_RUN * k;
     let mut counts = [0u16; MAX_RUN];
-    count_rows(edges, &mut counts[..], k, least(n, first + MAX_RUN));
-    count_past(edges, &mut counts[..], first, n);
+    count_rows(edges, &mut counts, k, n.min(first + MAX_RUN));
+    count_past(edges, &mut counts, first, n);
     counts
 }
 
 // How many of the n nodes are linked to each of them; 0 in the places past them.
+// Not one function with `strip_of`: every node has a place here, and no row is left for `count_past`, which counts MAX_RUN nodes of each.
 pub fn degrees_of(edges: &[u8], n: usize) -> [u16; MAX_NODES]
     requires { Room n edges.now }
     ensures { result ≡ degrees_of edges.now n }
 {
     let mut counts = [0u16; MAX_NODES];
-    count_rows(edges, &mut counts[..], 0, n);
+    count_rows(edges, &mut counts, 0, n);
     counts
 }
 
@@ -103,10 +105,7 @@ fn moved(degree: u16, on: bool) -> u16
     requires { (0 < degree + bit on) × (degree + bit on < 65536) }
     ensures { result ≡ moved on degree }
 {
-    if on {
-        return degree + 1;
-    }
-    degree - 1
+    if on { degree + 1 } else { degree - 1 }
 }
 
 // The degrees of a and b with one edge more where `on`, and with one less elsewhere.

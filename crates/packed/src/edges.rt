@@ -32,10 +32,7 @@ pub fn number(a: usize, b: usize) -> usize
     requires { (a ≢ b) × (a < max_nodes) × (b < max_nodes) }
     ensures { result ≡ pair_index a b }
 {
-    if a < b {
-        return index(a, b);
-    }
-    index(b, a)
+    index(a.min(b), a.max(b))
 }
 
 // Whether x and y are the pair of a and b, in either order.
@@ -43,13 +40,7 @@ pub fn same_pair(x: usize, y: usize, a: usize, b: usize) -> bool
     requires { x ≢ y }
     ensures { result ≡ same_pair x y a b }
 {
-    if x == a {
-        return y == b;
-    }
-    if x == b {
-        return y == a;
-    }
-    false
+    (x, y) == (a, b) || (x, y) == (b, a)
 }
 
 // Whether nodes a and b are linked, in either order. No node is linked to itself.
@@ -57,13 +48,7 @@ pub fn has(edges: &[u8], a: usize, b: usize) -> bool
     requires { Room (max a b + 1) edges.now }
     ensures { result ≡ edge edges.now a b }
 {
-    if a < b {
-        return get(edges, index(a, b));
-    }
-    if b < a {
-        return get(edges, index(b, a));
-    }
-    false
+    a != b && get(edges, number(a, b))
 }
 
 // Links nodes a and b where `on`, and takes their edge away elsewhere. A node gets no edge to itself.
@@ -71,12 +56,8 @@ pub fn link(edges: &mut [u8], a: usize, b: usize, on: bool)
     requires { Room (max a b + 1) edges.old }
     ensures { edges.new ≡ with_edge edges.old a b on }
 {
-    if a < b {
-        put(edges, index(a, b), on);
-        return;
-    }
-    if b < a {
-        put(edges, index(b, a), on);
+    if a != b {
+        put(edges, number(a, b), on);
     }
 }
 

@@ -8,7 +8,7 @@ ghost use Rattle.packed.specs.Inside.Rows.{both_of, either_of, in_set, in_word, 
 
 use crate::bits::get;
 use crate::edges::{MAX_NODES, row_start};
-use crate::runs::{least, run_of};
+use crate::runs::run_of;
 
 // The words of a set of nodes: 32 nodes in each.
 pub const ROW_WORDS: usize = 8;
@@ -25,11 +25,9 @@ fn row_below(edges: &[u8], p: usize) -> Row
 {
     let start = row_start(p);
     let mut row = [0u32; ROW_WORDS];
-    let mut k: usize = 0;
-    while 32 * k < p {
-        let end = least(32 * k + 32, p);
-        row[k] = (run_of(edges, start + 32 * k, end - 32 * k) << (32 * k + 32 - end)) as u32;
-        k += 1;
+    for (k, word) in row[..words_for(p)].iter_mut().enumerate() {
+        let end = (32 * k + 32).min(p);
+        *word = (run_of(edges, start + 32 * k, end - 32 * k) << (32 * k + 32 - end)) as u32;
     }
     row
 }
@@ -39,7 +37,7 @@ pub fn insert(set: &mut [u32], q: usize)
     requires { (length set.old ≡ row_words) × (q < max_nodes) }
     ensures { set.new ≡ with_node set.old q }
 {
-    set[q / 32] = set[q / 32] | 1u32 << (31 - q % 32);
+    set[q / 32] |= 1 << (31 - q % 32);
 }
 
 // The neighbours of p. The bit of p and q + 1, for q above p, is q bits after that of p and q.
@@ -51,7 +49,7 @@ pub fn row_of(edges: &[u8], n: usize, p: usize) -> Row
     let mut i = row_start(p + 1) + p;
     for q in p + 1..n {
         if get(edges, i) {
-            insert(&mut row[..], q);
+            insert(&mut row, q);
         }
         i += q;
     }
@@ -63,30 +61,30 @@ pub fn words_for(n: usize) -> usize
     requires { n ≤ max_nodes }
     ensures { result ≡ words_for n }
 {
-    (n + 31) / 32
+    n.div_ceil(32)
 }
 
 // How many nodes a word has.
 fn ones_of(word: u32) -> usize
     ensures { result ≡ count_to (in_word word 0) 32 }
 {
-    u32::count_ones(word) as usize
+    word.count_ones() as usize
 }
 
 // The set of all nodes.
 pub fn every_node() -> Row
     ensures { result ≡ set_of (λ q. true) }
 {
-    [4294967295u32; ROW_WORDS]
+    [u32::MAX; ROW_WORDS]
 }
 
 // The nodes that two sets have in common.
 pub fn both(x: Row, y: Row) -> Row
     ensures { result ≡ both_of x y }
 {
-    let mut row = [0u32; ROW_WORDS];
-    for k in 0..ROW_WORDS {
-        row[k] = x[k] & y[k];
+    let mut row = x;
+    for (k, word) in row.iter_mut().enumerate() {
+        *word &= y[k];
     }
     row
 }
@@ -96,8 +94,8 @@ pub fn include(set: &mut [u32], row: Row)
     requires { length set.old ≡ row_words }
     ensures { set.new ≡ either_of set.old row }
 {
-    for k in 0..ROW_WORDS {
-        set[k] = set[k] | row[k];
+    for (k, word) in set.iter_mut().enumerate() {
+        *word |= row[k];
     }
 }
 
@@ -115,9 +113,10 @@ fn row_within(edges: &[u8], set: Row, q: usize) -> Row
     ensures { result ≡ row_within edges.now set q }
 {
     if contains(set, q) {
-        return row_below(edges, q);
+        row_below(edges, q)
+    } else {
+        [0; ROW_WORDS]
     }
-    [0u32; ROW_WORDS]
 }
 
 // The same for each of n nodes.
@@ -126,8 +125,8 @@ pub fn rows_within(edges: &[u8], n: usize, set: Row) -> Rows
     ensures { result ≡ rows_within edges.now n set }
 {
     let mut rows = [[0u32; ROW_WORDS]; MAX_NODES];
-    for q in 0..n {
-        rows[q] = row_within(edges, set, q);
+    for (q, row) in rows[..n].iter_mut().enumerate() {
+        *row = row_within(edges, set, q);
     }
     rows
 }
@@ -137,11 +136,7 @@ pub fn size_of(row: Row, words: usize) -> usize
     requires { words ≤ row_words }
     ensures { result ≡ count_to (in_set row) (32 * words) }
 {
-    let mut count: usize = 0;
-    for k in 0..words {
-        count += ones_of(row[k]);
-    }
-    count
+    row[..words].iter().map(|word| ones_of(*word)).sum()
 }
 
 // Writes the nodes of a word, the first of which is `first`, to the places from `count` on, as far as there are any; returns the place after them.
@@ -153,12 +148,12 @@ fn append_word(word: u32, first: usize, nodes: &mut [u8], count: usize) -> usize
     let mut left = word as u64;
     let mut at = count;
     while left != 0 {
-        let after = 63 - u64::leading_zeros(left) as usize;
+        let after = 63 - left.leading_zeros() as usize;
         if at < nodes.len() {
             nodes[at] = (end - 1 - after) as u8;
         }
         at += 1;
-        left = left - (1u64 << after);
+        left -= 1 << after;
     }
     at
 }
@@ -170,8 +165,8 @@ pub fn append(row: Row, words: usize, nodes: &mut [u8], count: usize) -> usize
     ensures value { result ≡ count + length (members_of row (32 * words)) }
 {
     let mut at = count;
-    for k in 0..words {
-        at = append_word(row[k], 32 * k, nodes, at);
+    for (k, word) in row[..words].iter().enumerate() {
+        at = append_word(*word, 32 * k, nodes, at);
     }
     at
 }

@@ -1,8 +1,11 @@
--- How a list that the port answers ends. Assumes nothing.
-use mathlib.Core.Path.{ap, ◌∙◌, ◌≡◌}
-use Prim.Native.Nat.{ℕ}
-use Rattle.port.specs.Port.{as_one, ported}
-use Rattle.topk.specs.List.{Listed}
+-- A refusal as one number. Assumes nothing.
+use Rattle.std.proofs.Common.{◌≡◌, ◌∙◌, ℕ, sym}
+use Rattle.state.proofs.AnswerLaws.{number_some}
+use Rattle.state.proofs.RefusalLaws.{number_refused}
+use Rattle.state.specs.Answers.{number}
+use Rattle.state.specs.Refusal.{one_number}
+use Rattle.state.specs.declared.refusal.Refusal.{Refusal}
 
-pub port_is : {A : Type 0} {l m : Listed A} {r : ℕ} → r ≡ (as_one l).answer → l ≡ m → ported r l.after l.entries l.scratch ≡ as_one m
-port_is {l = l} q e = ap (λ r. ported r l.after l.entries l.scratch) q ∙ ap as_one e
+-- beside it no other number is seen
+pub refused_alone : (e : Refusal) (x y : ℕ) → one_number (number e) x ≡ one_number (number e) y
+refused_alone e x y = sym (number_refused (number e) x (number_some e)) ∙ number_refused (number e) y (number_some e)

@@ -12,27 +12,27 @@ ghost use Rattle.schedule.specs.Sheet.{load_at_call, write_at_call};
 ghost use Rattle.survey.specs.Position.{answer_of, numbers_of as position_numbers};
 ghost use Rattle.survey.specs.Sheet.{sheet_call};
 ghost use Rattle.state.specs.Outcome.{left};
-ghost use Rattle.state.specs.Refusal.{one_number};
+ghost use Rattle.state.specs.Answers.{refusal_of, one_number_of};
 ghost use Rattle.calls.specs.Snapshot.{load_call, written, write_call};
-ghost use Rattle.port.specs.Port.{as_one_change, as_one_conflict, as_one_nearest, as_one_record, NamesOne, NamesTwo, port_entries, port_list, ported};
+ghost use Rattle.port.specs.Port.{as_one_change, as_one_conflict, as_one_nearest, as_one_record, port_entries, port_list, ported};
 ghost use Rattle.state.specs.State.{state};
 
 use calls::snapshot::{load, write};
 use listing::records::list_entries;
-use merge::conflict::{Conflict, first_conflict};
+use merge::brought::Brought;
+use merge::conflict::first_conflict;
 use merge::pinned::reconcile_pinned;
 use merge::reconcile::reconcile;
 use nearest::listed::nearest_listed;
-use nearest::search::Nearest;
 use packed::edges::index;
 use preview::preview::{preview_add, preview_remove};
-use schedule::change::{Change, next_change};
+use schedule::change::next_change;
 use schedule::sheet::{load_at, write_at};
-use state::refusal::one_number;
-use survey::position::{Latest, latest_record};
+use state::refusal::{number_of, one_number};
+use survey::position::latest_record;
 use survey::sheet::write_latest;
 use topk::entries::Entry;
-use topk::list::{Answer, list};
+use topk::list::list;
 
 // Loads a sheet.
 #[unsafe(no_mangle)]
@@ -44,7 +44,7 @@ pub extern "C" fn fj_port_load(
 ) -> u64
     ensures { left result (state links.new figures.new marks.new) ≡ load_call (state links.old figures.old marks.old) sheet.now }
 {
-    load(links, figures, marks, sheet)
+    number_of(load(links, figures, marks, sheet))
 }
 
 // Writes the sheet of a board.
@@ -57,14 +57,7 @@ pub extern "C" fn fj_port_write(
 ) -> u64
     ensures { written result sheet.new ≡ write_call (state links.now figures.now marks.now) sheet.old }
 {
-    write(links, figures, marks, sheet)
-}
-
-// A list's answer as one number: how many posts were worked out, or 2^64 less the refusal number.
-fn number_of(answer: Answer) -> u64
-    ensures { result ≡ one_number answer.refusal answer.recomputed }
-{
-    one_number(answer.refusal, answer.recomputed)
+    number_of(write(links, figures, marks, sheet))
 }
 
 // The list over plain numbers.
@@ -78,7 +71,7 @@ pub extern "C" fn fj_port_list(
 ) -> u64
     ensures { ported result (state links.now figures.new marks.new) entries.new scratch.new ≡ port_list (state links.now figures.old marks.old) entries.old scratch.old }
 {
-    number_of(list(links, figures, marks, entries, scratch))
+    one_number(list(links, figures, marks, entries, scratch))
 }
 
 // The list over entries as records.
@@ -92,7 +85,7 @@ pub extern "C" fn fj_port_list_entries(
 ) -> u64
     ensures { ported result (state links.now figures.new marks.new) entries.new scratch.new ≡ port_entries (state links.now figures.old marks.old) entries.old scratch.old }
 {
-    number_of(list_entries(links, figures, marks, entries, scratch))
+    one_number(list_entries(links, figures, marks, entries, scratch))
 }
 
 // Brings another editor's changes into a board.
@@ -106,7 +99,7 @@ pub extern "C" fn fj_port_reconcile(
 ) -> u64
     ensures { left result (state links.new figures.new marks.new) ≡ reconcile_call (state links.old figures.old marks.old) theirs.now original.now }
 {
-    reconcile(links, figures, marks, theirs, original)
+    number_of(reconcile(links, figures, marks, theirs, original))
 }
 
 // Brings another editor's changes into a board, where each editor may have confirmed pairs.
@@ -122,23 +115,17 @@ pub extern "C" fn fj_port_reconcile_pinned(
 ) -> u64
     ensures { left result (state links.new figures.new marks.new) ≡ pinned_call (state links.old figures.old marks.old) (brought pins.now theirs.now their_pins.now original.now) }
 {
-    reconcile_pinned(links, figures, marks, pins, theirs, their_pins, original)
+    let brought = Brought {
+        pins,
+        theirs,
+        their_pins,
+        base: original,
+    };
+    number_of(reconcile_pinned(links, figures, marks, brought))
 }
 
 // Stands for no conflict, where a bit would stand.
 const NO_CONFLICT: u64 = 4294967296;
-
-// A conflict as one number: the bit of its pair, or that there is none, or 2^64 less the refusal number.
-fn number_of_conflict(conflict: Conflict) -> u64
-    requires { NamesTwo (conflict_numbers conflict) }
-    ensures { result ≡ as_one_conflict (conflict_numbers conflict) }
-{
-    match conflict {
-        Conflict::Between { a, b } => index(a, b) as u64,
-        Conflict::NoConflict => NO_CONFLICT,
-        Conflict::Refused { refusal } => one_number(refusal, NO_CONFLICT),
-    }
-}
 
 // The lowest pair on which both editors have spoken and which they left different.
 #[unsafe(no_mangle)]
@@ -152,30 +139,32 @@ pub extern "C" fn fj_port_conflict(
 ) -> u64
     ensures { result ≡ as_one_conflict (conflict_numbers (conflict_call links.now n (brought pins.now theirs.now their_pins.now original.now))) }
 {
-    number_of_conflict(first_conflict(links, n as usize, pins, theirs, their_pins, original))
+    let brought = Brought {
+        pins,
+        theirs,
+        their_pins,
+        base: original,
+    };
+    match first_conflict(links, n as usize, brought) {
+        Ok(Some(pair)) => index(pair.a, pair.b) as u64,
+        Ok(None) => NO_CONFLICT,
+        Err(refusal) => one_number(Err(refusal)),
+    }
 }
 
 // Stands for no post, where a hop count and a post would stand.
 const NO_POST: u64 = 4294967296;
-
-// The nearest listed post as one number: its hop count times 65,536 and the post, or that there is none, or 2^64 less the refusal number.
-fn number_of_nearest(nearest: Nearest) -> u64
-    requires { NamesOne (nearest_numbers nearest) }
-    ensures { result ≡ as_one_nearest (nearest_numbers nearest) }
-{
-    match nearest {
-        Nearest::At { node, hops } => hops as u64 * 65536 + node as u64,
-        Nearest::NoneWithin => NO_POST,
-        Nearest::Refused { refusal } => one_number(refusal, NO_POST),
-    }
-}
 
 // The listed post reachable over the fewest links, within a limit of hops.
 #[unsafe(no_mangle)]
 pub extern "C" fn fj_port_nearest(links: &[u8], n: u64, post: u64, listed: &[u64], hops: u8) -> u64
     ensures { result ≡ as_one_nearest (nearest_answer links.now n post listed.now hops) }
 {
-    number_of_nearest(nearest_listed(links, n as usize, post as usize, listed, hops))
+    match nearest_listed(links, n as usize, post as usize, listed, hops) {
+        Ok(Some(near)) => near.hops as u64 * 65536 + near.node as u64,
+        Ok(None) => NO_POST,
+        Err(refusal) => one_number(Err(refusal)),
+    }
 }
 
 // What adding a link would change, post by post.
@@ -190,7 +179,7 @@ pub extern "C" fn fj_port_preview_add(
 ) -> u64
     ensures { previewed result changes.new ≡ preview_add_call (state links.now figures.now marks.now) changes.old a b }
 {
-    preview_add(links, figures, marks, changes, a as usize, b as usize)
+    number_of(preview_add(links, figures, marks, changes, a as usize, b as usize))
 }
 
 // What removing a link would change, post by post.
@@ -205,7 +194,7 @@ pub extern "C" fn fj_port_preview_remove(
 ) -> u64
     ensures { previewed result changes.new ≡ preview_remove_call (state links.now figures.now marks.now) changes.old a b }
 {
-    preview_remove(links, figures, marks, changes, a as usize, b as usize)
+    number_of(preview_remove(links, figures, marks, changes, a as usize, b as usize))
 }
 
 // Writes the sheet of a schedule at a minute.
@@ -213,29 +202,22 @@ pub extern "C" fn fj_port_preview_remove(
 pub extern "C" fn fj_port_schedule_write(schedule: &[u8], minute: u16, sheet: &mut [u8]) -> u64
     ensures { written result sheet.new ≡ write_at_call schedule.now minute sheet.old }
 {
-    write_at(schedule, minute, sheet)
+    number_of(write_at(schedule, minute, sheet))
 }
 
 // Stands for no change, where a minute would stand.
 const NO_CHANGE: u64 = 65536;
-
-// A change as one number: the minute, or that there is none, or 2^64 less the refusal number.
-fn number_of_change(change: Change) -> u64
-    ensures { result ≡ as_one_change (numbers_of change) }
-{
-    match change {
-        Change::At { minute } => minute as u64,
-        Change::Never => NO_CHANGE,
-        Change::Refused { refusal } => one_number(refusal, NO_CHANGE),
-    }
-}
 
 // The first minute after `minute` at which a link of a schedule differs.
 #[unsafe(no_mangle)]
 pub extern "C" fn fj_port_schedule_next(schedule: &[u8], minute: u16) -> u64
     ensures { result ≡ as_one_change (next_of schedule.now minute) }
 {
-    number_of_change(next_change(schedule, minute))
+    match next_change(schedule, minute) {
+        Ok(Some(minute)) => minute as u64,
+        Ok(None) => NO_CHANGE,
+        Err(refusal) => one_number(Err(refusal)),
+    }
 }
 
 // Loads the sheet of a schedule at a minute.
@@ -249,7 +231,7 @@ pub extern "C" fn fj_port_schedule_load(
 ) -> u64
     ensures { left result (state links.new figures.new marks.new) ≡ load_at_call (state links.old figures.old marks.old) schedule.now minute }
 {
-    load_at(links, figures, marks, schedule, minute)
+    number_of(load_at(links, figures, marks, schedule, minute))
 }
 
 // Writes the sheet of a survey at a threshold.
@@ -262,27 +244,20 @@ pub extern "C" fn fj_port_survey_write(
 ) -> u64
     ensures { written result sheet.new ≡ sheet_call survey.now n threshold sheet.old }
 {
-    write_latest(survey, n as usize, threshold, sheet)
+    number_of(write_latest(survey, n as usize, threshold, sheet))
 }
 
 // Stands for no record, where a position would stand.
 const NO_RECORD: u64 = 9223372036854775808;
-
-// A record as one number: its position, or that there is none, or 2^64 less the refusal number.
-fn number_of_record(latest: Latest) -> u64
-    ensures { result ≡ as_one_record (position_numbers latest) }
-{
-    match latest {
-        Latest::At { position } => position as u64,
-        Latest::NoRecord => NO_RECORD,
-        Latest::Refused { refusal } => one_number(refusal, NO_RECORD),
-    }
-}
 
 // The position of the record of a survey that counts for a pair.
 #[unsafe(no_mangle)]
 pub extern "C" fn fj_port_survey_position(survey: &[u8], n: u64, a: u64, b: u64) -> u64
     ensures { result ≡ as_one_record (answer_of survey.now n a b) }
 {
-    number_of_record(latest_record(survey, n as usize, a as usize, b as usize))
+    match latest_record(survey, n as usize, a as usize, b as usize) {
+        Ok(Some(position)) => position as u64,
+        Ok(None) => NO_RECORD,
+        Err(refusal) => one_number(Err(refusal)),
+    }
 }

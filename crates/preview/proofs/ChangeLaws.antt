@@ -5,6 +5,7 @@ use mathlib.Core.Path.{◌≡◌, refl, sym, ap, ◌∙◌}
 use Prim.Native.Nat.{ℕ, zero, suc, ◌+◌, ◌-◌, ◌≤◌, ◌<◌, ◌^◌}
 use native.Mathlib.Decide.{dec_lt}
 use native.Mathlib.Omega.{arith}
+use Rattle.std.proofs.lemmas.Int.{ints}
 use borrow.Author.Tests.{lt-ltb, le-ltb}
 use lib.Dec.{ltb→lt, lt→ltb}
 use lib.IntN.{pos, negsuc, neg_ℤ, ◌-ℤ◌}
@@ -76,6 +77,9 @@ negated a b = elim (dec_lt a b) [
         ap neg_ℤ (minus_more a b (omega arith) ∙ ap pos e) ∙ sym (minus_more b a (omega arith) ∙ ap pos d)
   ]
 ]
+
+pub minus_back : (a b : ℕ) → pos 0 -ℤ (pos a -ℤ pos b) ≡ pos b -ℤ pos a
+minus_back a b = omega (arith, ints)
 
 pub map_tabulate : {A B : Type 0} (f : A → B) (at : ℕ → A) (n : ℕ) → map f (tabulate at n) ≡ tabulate (λ i. f (at i)) n
 unfolding tabulate

@@ -22,8 +22,9 @@ use Rattle.packed.proofs.EdgeLaws.{edge_comm, with_comm}
 use Rattle.packed.specs.Edges.{edge, with_edge}
 use Rattle.edits.specs.declared.touched.Touched.{Touched}
 use Rattle.preview.proofs.ScoreChange.{as_is, change_at, score_change}
-use Rattle.preview.specs.Inside.Effect.{change_by, change_each, effect_of, Shared}
-use Rattle.preview.specs.Inside.Ends.{Affected}
+use Rattle.preview.specs.Inside.Effect.{change_by, change_each, effect_of, Reached, Shared}
+use Rattle.preview.specs.Inside.Ends.{Affected, BothEnds}
+use Rattle.preview.specs.declared.ends.Ends.{Ends}
 use Rattle.preview.specs.Preview.{score_changes}
 
 module _ (g : Graph) (n a b : ℕ) (on : Bool) (nodes : List ℕ) (changes : List ℤ) where
@@ -66,7 +67,7 @@ module _ {es : List ℕ} {n a b : ℕ} {on : Bool} {t : Touched} (e : Editable e
       each true z = rw z at (e.few_after i h)
       each false z = rw (as_is e.pair (e.pair.was ∙ ap not z)) (e.few_before i h)
 
-  pub affected : (i : ℕ) → i < t.count → Affected es n a b (get_or t.nodes i 0)
+  affected : (i : ℕ) → i < t.count → Affected es n a b (get_or t.nodes i 0)
   affected i h = record {
     first_below = e.pair.first_below;
     second_below = e.pair.second_below;
@@ -93,7 +94,7 @@ module _ {es : List ℕ} {n a b : ℕ} {on : Bool} {t : Touched} (e : Editable e
       )
 
   -- and one that is not an end is linked to both
-  pub shared : (i : ℕ) → i < t.count → get_or t.nodes i 0 ≢ a → get_or t.nodes i 0 ≢ b → Shared (edge es) a b (get_or t.nodes i 0)
+  shared : (i : ℕ) → i < t.count → get_or t.nodes i 0 ≢ a → get_or t.nodes i 0 ≢ b → Shared (edge es) a b (get_or t.nodes i 0)
   shared i h d k = elim (ℕ_discrete i 0) [
     | yes z ↦ absurd (d (ap (λ j. get_or t.nodes j 0) z ∙ first_is e.listed))
     | no m ↦ elim (ℕ_discrete i 1) [
@@ -103,6 +104,9 @@ module _ {es : List ℕ} {n a b : ℕ} {on : Bool} {t : Touched} (e : Editable e
           record { first = edge_comm es (get_or t.nodes i 0) a ∙ r.first; second = edge_comm es (get_or t.nodes i 0) b ∙ r.second }
     ]
   ]
+
+  pub reached : {ends : Ends} → BothEnds es n a b ends → (i : ℕ) → i < t.count → Reached es n a b ends (get_or t.nodes i 0)
+  reached both i h = record { both = both; affected = affected i h; shared = shared i h }
 
   -- THE CHANGES that are written are the changes of the scores
   pub changes_are : {changes : List ℤ} → changes ≡ change_each (edge (with_edge es a b true)) n a b on t.nodes (replicate n (pos 0)) t.count

@@ -2,9 +2,8 @@
 use mathlib.Core.Bool.{Bool, true, true≢false}
 use mathlib.Core.List.{List}
 use mathlib.Core.Logic.{◌≢◌}
-use mathlib.Core.Path.{sym, ◌∙◌, ◌≡◌}
+use mathlib.Core.Path.{refl, sym, ◌∙◌, ◌≡◌}
 use Prim.Native.Nat.{◌<◌, zero-le, ℕ, ◌≤◌}
-use native.Mathlib.Decide.{dec_lt}
 use native.Mathlib.Omega.{arith}
 use borrow.Author.Tests.{eq-eqb, eqb-true}
 use lib.Dec.{eqb}
@@ -13,6 +12,7 @@ use Rattle.arith.proofs.Words.{pack_bit, pack_is, pack_lt}
 use Rattle.arith.specs.Sums.{pack_to}
 use Rattle.edits.proofs.EditLaws.{edge_apart, edge_written}
 use Rattle.ego.proofs.FoundLaws.{Found, found_ascending, found_is, found_of, node_linked}
+use Rattle.std.proofs.Common.{IsSome, None, Option, Some}
 use Rattle.ego.specs.Limits.{limit}
 use Rattle.ego.specs.Inside.Words.{Ascending, first_members, link_at, WordsFrom}
 use Rattle.ego.specs.declared.neighbours.Neighbours.{Neighbours}
@@ -21,7 +21,7 @@ use Rattle.packed.proofs.SetLaws.{row_with}
 use Rattle.packed.specs.Edges.{with_edge}
 use Rattle.packed.specs.Inside.Room.{Room}
 use Rattle.packed.specs.Inside.Rows.{row_of, with_node}
-use Rattle.packed.specs.Inside.Search.{FirstFrom}
+use Rattle.packed.specs.Inside.Search.{FirstIn}
 
 -- ---- words of the same edges
 
@@ -65,11 +65,11 @@ module _ (es : List ℕ) (n a b : ℕ) (room : Room n es) (ha : a < n) (hb : b <
 
 -- ---- a search that finds
 
-pub place_found : (nodes : List ℕ) {d q r : ℕ} → FirstFrom (λ i. eqb (get_or nodes i 0) q) 0 d r → (k : ℕ) × (k < d) × (get_or nodes k 0 ≡ q)
-    → (r < d) × (get_or nodes r 0 ≡ q)
-place_found nodes {d} {q} {r} f at =
-    let inside : r < d = elim (dec_lt r d) [
-      | yes l ↦ l
-      | no l ↦ absurd (true≢false (sym (eq-eqb (get_or nodes at.0 0) q at.2) ∙ f.none at.0 zero-le (omega (arith, at.1, f.stop))))
-    ] in
-    (inside, eqb-true (get_or nodes r 0) q (f.some inside))
+pub place_found : (nodes : List ℕ) {d q r : ℕ} {o : Option ℕ} → FirstIn (λ i. eqb (get_or nodes i 0) q) 0 d o → o ≡ Some r → (r < d) × (get_or nodes r 0 ≡ q)
+place_found nodes {q = q} {r} f e = let h = rw e at f in (h.1, eqb-true (get_or nodes r 0) q (h.0.some h.1))
+
+-- and does find
+pub place_there : (nodes : List ℕ) {d q : ℕ} (o : Option ℕ) → FirstIn (λ i. eqb (get_or nodes i 0) q) 0 d o → (k : ℕ) × (k < d) × (get_or nodes k 0 ≡ q)
+    → IsSome o
+place_there nodes (Some r) f at = refl
+place_there nodes {q = q} None f at = absurd (true≢false (sym (eq-eqb (get_or nodes at.0 0) q at.2) ∙ f.none at.0 zero-le at.1))

@@ -1,7 +1,6 @@
 // The preview of an edit: the change of each node's score, worked out by the rules and with nothing done.
 #![tactic(auto)]
 
-pub mod changes;
 pub mod effect;
 pub mod ends;
 pub mod preview;

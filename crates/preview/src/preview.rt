@@ -5,17 +5,16 @@ ghost use Rattle.edits.specs.Inside.Change.{Editable};
 ghost use Rattle.preview.specs.Preview.{preview_add_call, previewed, preview_remove_call};
 ghost use Rattle.preview.specs.Inside.Effect.{change_each};
 ghost use Rattle.preview.specs.Inside.Call.{preview_call};
+ghost use Rattle.state.specs.Answers.{refusal_of};
 ghost use Rattle.state.specs.State.{state};
 
-use crate::changes::{put_change, set_unchanged};
 use crate::effect::effect_of;
 use crate::ends::ends_of;
-use crate::rules::falls;
+use crate::rules::Tables;
 use edits::examined::examine;
 use edits::touched::Touched;
-use ego::share::shares;
-use state::refusal::LENGTH;
-use state::sizes::state_refusal;
+use state::refusal::Refusal;
+use state::sizes::check_state;
 
 // Writes the change of each node that an edit touches.
 fn put_each(
@@ -25,18 +24,16 @@ fn put_each(
     a: usize,
     b: usize,
     on: bool,
-    touching: Touched,
+    touching: &Touched,
 )
-    requires { Editable edges.now n a b on touching × (length changes.old ≡ n) }
-    ensures { changes.new ≡ change_each (edge (with_edge edges.now a b true)) n a b on touching.nodes changes.old touching.count }
+    requires { Editable edges.now n a b on touching.now × (length changes.old ≡ n) }
+    ensures { changes.new ≡ change_each (edge (with_edge edges.now a b true)) n a b on touching.now.nodes changes.old touching.now.count }
 {
-    let shares = shares();
-    let falls = falls(&shares);
+    let tables = Tables::new();
     let ends = ends_of(edges, n, a, b);
-    let nodes = touching.nodes;
-    for i in 0..touching.count {
-        let p = nodes[i] as usize;
-        put_change(changes, p, effect_of(&shares, &falls, ends, a, b, p), on);
+    for &node in &touching.nodes[..touching.count] {
+        let p = node as usize;
+        changes[p] = effect_of(&tables, &ends, a, b, p).change_by(on);
     }
 }
 
@@ -49,25 +46,18 @@ fn preview(
     a: usize,
     b: usize,
     on: bool,
-) -> u64
-    ensures { previewed result changes.new ≡ preview_call (state edges.now figures.now marks.now) changes.old a b on }
+) -> Result<(), Refusal>
+    ensures { previewed (refusal_of result) changes.new ≡ preview_call (state edges.now figures.now marks.now) changes.old a b on }
 {
     let n = figures.len();
-    let lengths = state_refusal(n, edges.len(), marks.len());
-    if lengths != 0 {
-        return lengths;
-    }
+    check_state(n, edges.len(), marks.len())?;
     if changes.len() != n {
-        return LENGTH;
+        return Err(Refusal::Length);
     }
-    let examined = examine(edges, n, a, b, on);
-    let turned = examined.refusal;
-    if turned != 0 {
-        return turned;
-    }
-    set_unchanged(changes);
-    put_each(edges, n, changes, a, b, on, examined.touching);
-    0
+    let touching = examine(edges, n, a, b, on)?;
+    changes.fill(0);
+    put_each(edges, n, changes, a, b, on, &touching);
+    Ok(())
 }
 
 // What adding the edge a, b would change: for each node the signed change of its score, in grains. The state is only read.
@@ -78,8 +68,8 @@ pub fn preview_add(
     changes: &mut [i64],
     a: usize,
     b: usize,
-) -> u64
-    ensures { previewed result changes.new ≡ preview_add_call (state edges.now figures.now marks.now) changes.old a b }
+) -> Result<(), Refusal>
+    ensures { previewed (refusal_of result) changes.new ≡ preview_add_call (state edges.now figures.now marks.now) changes.old a b }
 {
     preview(edges, figures, marks, changes, a, b, true)
 }
@@ -92,8 +82,8 @@ pub fn preview_remove(
     changes: &mut [i64],
     a: usize,
     b: usize,
-) -> u64
-    ensures { previewed result changes.new ≡ preview_remove_call (state edges.now figures.now marks.now) changes.old a b }
+) -> Result<(), Refusal>
+    ensures { previewed (refusal_of result) changes.new ≡ preview_remove_call (state edges.now figures.now marks.now) changes.old a b }
 {
     preview(edges, figures, marks, changes, a, b, false)
 }

@@ -1,3 +1,2 @@
 -- The laws behind `replay`.
-pub mod DigitLaws
 pub mod ReadLaws

@@ -1,3 +1,2 @@
 -- What the contracts of `replay` cite.
-pub mod Limits
 pub mod Lines

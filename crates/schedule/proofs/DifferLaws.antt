@@ -16,13 +16,15 @@ use Rattle.packed.specs.Bits.{differ}
 use Rattle.packed.specs.Inside.Search.{FirstFrom}
 use Rattle.packed.specs.Inside.Windows.{window}
 use Rattle.schedule.proofs.OpenLaws.{linked_by, linked_of, Opened, unlinked_by}
+use Rattle.schedule.proofs.PassLaws.{changed_most}
 use Rattle.schedule.proofs.PlaceLaws.{changes_placed, linked_changes, open_moves, place_at, Placed, unlinked_changes}
 use Rattle.schedule.specs.Change.{minutes}
 use Rattle.schedule.specs.Schedule.{opening_at, record_count}
 use Rattle.schedule.specs.declared.records.Opening.{Opening}
 use Rattle.schedule.specs.Inside.Numbers.{differs_in, linked_no}
 use Rattle.schedule.specs.Inside.Records.{Valid}
-use Rattle.schedule.specs.Inside.Until.{changed_by, changed_to, Lasts, place_of, Rests, Scope, scope}
+use Rattle.schedule.specs.declared.change.Scope.{Scope}
+use Rattle.schedule.specs.Inside.Until.{changed_by, changed_to, Lasts, place_of, Rests}
 
 -- ---- pairs of a window that differ
 
@@ -90,11 +92,6 @@ module _ (schedule : List ℕ) (w : Scope) (until : List ℕ) where
   abbrev by : ℕ → ℕ
   by i = changed_by w until (opening_at schedule i)
 
-  changed_most : (k : ℕ) → changed_to schedule w until k ≤ w.limit
-  unfolding changed_to
-  changed_most zero = le_refl w.limit
-  changed_most (suc i) = omega (arith, changed_most i)
-
   changed_least : (k i : ℕ) → i < k → changed_to schedule w until k ≤ by i
   unfolding changed_to
   changed_least zero i h = absurd (omega arith)
@@ -117,7 +114,7 @@ pub differ_same : (a b : Bool) → a ≡ b → differ a b ≡ false
 differ_same true b e = ap not (sym e)
 differ_same false b e = sym e
 
-module _ {schedule : List ℕ} {w : Scope} {until : List ℕ} (valid : Valid schedule) (before : w.t < w.limit) (lasts : Lasts schedule w until)
+module _ {schedule : List ℕ} {w : Scope} {until : List ℕ} (valid : Valid schedule) (before : w.minute < w.limit) (lasts : Lasts schedule w until)
     (rests : Rests schedule w until (record_count schedule)) where
   -- the pair with a place is linked at a minute
   abbrev linked_in : ℕ → ℕ → Bool
@@ -137,23 +134,23 @@ module _ {schedule : List ℕ} {w : Scope} {until : List ℕ} (valid : Valid sch
       true≢false ((open_moves w until r at h o.begun o.ends).0 ∙ rests o.at o.inside))
 
   -- that minute is later than t exactly if it is linked at t
-  linked_now : (k : ℕ) → k < window → w.t < last k → linked_in w.t k ≡ true
-  linked_now k h l = lasts.linked k h w.t (le_refl w.t) l
+  linked_now : (k : ℕ) → k < window → w.minute < last k → linked_in w.minute k ≡ true
+  linked_now k h l = lasts.linked k h w.minute (le_refl w.minute) l
 
-  unlinked_now : (k : ℕ) → k < window → last k ≤ w.t → linked_in w.t k ≡ false
+  unlinked_now : (k : ℕ) → k < window → last k ≤ w.minute → linked_in w.minute k ≡ false
   unlinked_now k h l =
-      let e : last k ≡ w.t = omega (arith, lasts.begun k h) in
+      let e : last k ≡ w.minute = omega (arith, lasts.begun k h) in
       ap (λ m. linked_in m k) (sym e) ∙ unlinked_then k h (omega arith)
 
   -- a record of a pair that is not linked at t begins later
-  begins_later : (i : ℕ) → i < record_count schedule → Placed w (opening_at schedule i) → last (place_of w (opening_at schedule i)) ≤ w.t
-      → w.t < (opening_at schedule i).from
-  begins_later i h p l = elim (dec_lt w.t (opening_at schedule i).from) [
+  begins_later : (i : ℕ) → i < record_count schedule → Placed w (opening_at schedule i) → last (place_of w (opening_at schedule i)) ≤ w.minute
+      → w.minute < (opening_at schedule i).from
+  begins_later i h p l = elim (dec_lt w.minute (opening_at schedule i).from) [
     | yes s ↦ s
     | no s ↦
-        let now : Opened schedule w.t (w.start + place_of w (opening_at schedule i)) =
+        let now : Opened schedule w.minute (w.start + place_of w (opening_at schedule i)) =
         record { at = i; inside = h; number = p.number; begun = omega arith; ends = p.late } in
-        absurd (true≢false (sym (linked_by schedule w.t _ now) ∙ unlinked_now _ p.inside l))
+        absurd (true≢false (sym (linked_by schedule w.minute _ now) ∙ unlinked_now _ p.inside l))
   ]
 
   -- the record that tells of the first minute, and its pair
@@ -170,10 +167,10 @@ module _ {schedule : List ℕ} {w : Scope} {until : List ℕ} (valid : Valid sch
 
   -- it differs then, and t is earlier
   abbrev Differs : Type 0
-  Differs = (w.t < first) × (k : ℕ) × (k < window) × (differ (linked_in first k) (linked_in w.t k) ≡ true)
+  Differs = (w.minute < first) × (k : ℕ) × (k < window) × (differ (linked_in first k) (linked_in w.minute k) ≡ true)
 
   told_differs : Told → first < w.limit → Differs
-  told_differs d l = elim (dec_lt w.t (last k)) [
+  told_differs d l = elim (dec_lt w.minute (last k)) [
     | yes s ↦
         let e : last k ≡ first = linked_changes w until r refl h s ∙ d.is in
         (omega arith, k, h, ap₂ differ (ap (λ m. linked_in m k) (sym e) ∙ unlinked_then k h (omega arith)) (linked_now k h s))
@@ -203,19 +200,19 @@ module _ {schedule : List ℕ} {w : Scope} {until : List ℕ} (valid : Valid sch
       h = d.place.inside
 
   -- before it none does: one that is linked at t lasts up to it, and none opens earlier
-  same_linked : (k : ℕ) → k < window → linked_in w.t k ≡ true → (m : ℕ) → w.t < m → m < first → linked_in m k ≡ true
-  same_linked k h e m a b = elim (dec_lt w.t (last k)) [
+  same_linked : (k : ℕ) → k < window → linked_in w.minute k ≡ true → (m : ℕ) → w.minute < m → m < first → linked_in m k ≡ true
+  same_linked k h e m a b = elim (dec_lt w.minute (last k)) [
     | no s ↦ absurd (true≢false (sym e ∙ unlinked_now k h (omega arith)))
     | yes s ↦
-        let o = linked_of schedule w.t (w.start + k) e in
+        let o = linked_of schedule w.minute (w.start + k) e in
         let r = opening_at schedule o.at in
         let at = place_at w r k h o.number o.ends (omega (arith, o.begun)) in
         let least = changed_least schedule w until (record_count schedule) o.at o.inside in
         lasts.linked k h m (omega arith) (omega (arith, linked_changes w until r at h s, least))
   ]
 
-  same_unlinked : (k : ℕ) → k < window → linked_in w.t k ≡ false → (m : ℕ) → w.t < m → m < first → linked_in m k ≡ false
-  same_unlinked k h e m a b = elim (dec_lt w.t (last k)) [
+  same_unlinked : (k : ℕ) → k < window → linked_in w.minute k ≡ false → (m : ℕ) → w.minute < m → m < first → linked_in m k ≡ false
+  same_unlinked k h e m a b = elim (dec_lt w.minute (last k)) [
     | yes s ↦ absurd (true≢false (sym (linked_now k h s) ∙ e))
     | no s ↦ unlinked_by schedule m (w.start + k) (λ o.
         let r = opening_at schedule o.at in
@@ -225,26 +222,24 @@ module _ {schedule : List ℕ} {w : Scope} {until : List ℕ} (valid : Valid sch
         omega (arith, unlinked_changes w until r at h (omega arith), o.begun, least))
   ]
 
-  same_before : (k : ℕ) → k < window → (m : ℕ) → w.t < m → m < first → linked_in m k ≡ linked_in w.t k
-  same_before k h m a b = elim (test (linked_in w.t k)) [
+  same_before : (k : ℕ) → k < window → (m : ℕ) → w.minute < m → m < first → linked_in m k ≡ linked_in w.minute k
+  same_before k h m a b = elim (test (linked_in w.minute k)) [
     | inl e ↦ same_linked k h e m a b ∙ sym e
     | inr e ↦ same_unlinked k h e m a b ∙ sym e
   ]
 
-  first_differs : FirstFrom (differs_in schedule w.start (w.start + window) w.t) (w.t + 1) w.limit first
+  first_differs : FirstFrom (differs_in schedule w.start (w.start + window) w.minute) (w.minute + 1) w.limit first
   first_differs = record {
     start = elim (dec_lt first w.limit) [ yes l ↦ omega (arith, (told_differs (told l) l).0) | no l ↦ omega arith ];
     stop = changed_most schedule w until (record_count schedule);
-    none = λ m a b. differs_never schedule w.t w.start (w.start + window) m (λ p l h.
+    none = λ m a b. differs_never schedule w.minute w.start (w.start + window) m (λ p l h.
         let e : w.start + (p - w.start) ≡ p = omega arith in
-        subst (λ q. differs_no schedule w.t m q ≡ false) e (differ_same _ _ (same_before (p - w.start) (omega arith) m (omega arith) b)));
+        subst (λ q. differs_no schedule w.minute m q ≡ false) e (differ_same _ _ (same_before (p - w.start) (omega arith) m (omega arith) b)));
     some = λ l.
         let (_, k, h, d) = told_differs (told l) l in
-        differs_at schedule w.t w.start (w.start + window) first (w.start + k) (omega arith) (omega arith) d;
+        differs_at schedule w.minute w.start (w.start + window) first (w.start + k) (omega arith) (omega arith) d;
   }
 
-pub change_first : {schedule until : List ℕ} {start t limit m : ℕ} → Valid schedule → t < limit → Lasts schedule (scope start t limit) until
-    → Rests schedule (scope start t limit) until (record_count schedule) → m ≡ changed_to schedule (scope start t limit) until (record_count schedule)
-    → FirstFrom (differs_in schedule start (start + window) t) (t + 1) limit m
-change_first {schedule} {start = start} {t} {limit} valid before lasts rests e =
-    subst (FirstFrom (differs_in schedule start (start + window) t) (t + 1) limit) (sym e) (first_differs valid before lasts rests)
+  pub change_first : {m : ℕ} → m ≡ changed_to schedule w until (record_count schedule)
+      → FirstFrom (differs_in schedule w.start (w.start + window) w.minute) (w.minute + 1) w.limit m
+  change_first e = subst (FirstFrom (differs_in schedule w.start (w.start + window) w.minute) (w.minute + 1) w.limit) (sym e) first_differs

@@ -13,6 +13,7 @@ use Rattle.packed.proofs.FirstLaws.{least_first}
 use Rattle.packed.proofs.GraphLaws.{numbered_comm, pair_here, pair_some}
 use Rattle.packed.specs.Bits.{differ}
 use Rattle.packed.specs.Inside.Search.{FirstFrom}
+use Rattle.state.specs.Answers.{At, Nowhere, Refused}
 use Rattle.state.specs.Refusal.{refusal}
 use Rattle.calls.proofs.AcceptLaws.{passes}
 use Rattle.schedule.proofs.DifferLaws.{differ_same}
@@ -22,7 +23,6 @@ use Rattle.schedule.proofs.OpenLaws.{shut_after, to_lt}
 use Rattle.schedule.specs.Change.{change_call, change_conditions, differs_at, first_differing, minutes, numbers_of}
 use Rattle.schedule.specs.FirstChange.{AsAt, FirstChange, NextChange}
 use Rattle.schedule.specs.Schedule.{bad_schedule, linked_at, names, open_at, opening_at, record_conditions, record_count, schedule_nodes}
-use Rattle.schedule.specs.declared.change.Change.TheVariants.{At, Never, Refused}
 use Rattle.schedule.specs.Inside.Records.{Sounds}
 
 -- ---- the links at a minute and at t
@@ -129,7 +129,7 @@ at_same : {m m' : ℕ} → At m ≡ At m' → m ≡ m'
 unfolding numbers_of
 at_same e = ap (λ c. (numbers_of c).minute) e
 
-at_never : {m : ℕ} → At m ≡ Never → ⊥
+at_never : {m : ℕ} → At m ≡ Nowhere → ⊥
 unfolding numbers_of
 at_never e = true≢false (ap (λ c. (numbers_of c).some) e)
 
@@ -147,7 +147,7 @@ module _ (schedule : List ℕ) (t : ℕ) where
     unfolding change_call
     call_at l = rw (eq-eqb (refusal (change_conditions schedule)) 0 z, lt-ltb (first_differing schedule t) minutes l)
 
-    call_never : minutes ≤ first_differing schedule t → change_call schedule t ≡ Never
+    call_never : minutes ≤ first_differing schedule t → change_call schedule t ≡ Nowhere
     unfolding change_call
     call_never h = rw (eq-eqb (refusal (change_conditions schedule)) 0 z, le-ltb (first_differing schedule t) minutes h)
 
@@ -163,13 +163,13 @@ module _ (schedule : List ℕ) (t : ℕ) where
       | no l ↦ absurd (not_as_at schedule t m c.differs (first_never schedule t sounds (omega arith) m c.later))
     ]
 
-    never_forth : change_call schedule t ≡ Never → (m : ℕ) → t < m → AsAt schedule t m
+    never_forth : change_call schedule t ≡ Nowhere → (m : ℕ) → t < m → AsAt schedule t m
     never_forth e = elim (dec_lt (first_differing schedule t) minutes) [
       | yes l ↦ absurd (at_never (sym (call_at l) ∙ e))
       | no l ↦ first_never schedule t sounds (omega arith)
     ]
 
-    never_back : ((m : ℕ) → t < m → AsAt schedule t m) → change_call schedule t ≡ Never
+    never_back : ((m : ℕ) → t < m → AsAt schedule t m) → change_call schedule t ≡ Nowhere
     never_back same = elim (dec_lt (first_differing schedule t) minutes) [
       | yes l ↦
           let m = first_differing schedule t in

@@ -1,21 +1,24 @@
 -- The laws of a record's place in a window, and of what the record does to the minute of its pair there. Assumes nothing.
 use mathlib.Core.Bool.{false, true}
 use mathlib.Core.List.{List}
-use mathlib.Core.Logic.{inl, inr, ◌⊎◌, ◌≢◌}
-use mathlib.Core.Path.{refl, sym, ◌∙◌, ◌≡◌}
+use mathlib.Core.Logic.{inl, inr, ◌⊎◌}
+use mathlib.Core.Path.{ap, sym, ◌∙◌, ◌≡◌}
 use Prim.Native.Nat.{◌+◌, ◌<◌, ℕ, ◌≤◌}
 use native.Mathlib.Omega.{arith}
 use borrow.Author.Tests.{le-ltb, lt-ltb, ltb-true}
 use lib.Dec.{ltb}
 use lib.ListN.{get_or, set}
-use Rattle.arith.proofs.Tests.{and-true, test}
-use Rattle.packed.proofs.WindowLaws.{place_in_lem, place-or as inside-or}
-use Rattle.packed.specs.Inside.Windows.{place_in, window}
+use Rattle.arith.proofs.Tests.{and-false, and-true, test}
+use Rattle.packed.proofs.WindowLaws.{place_in_lem, place-or as inside-or, placed_none, placed_some}
+use Rattle.packed.specs.Inside.Windows.{placed as inside_of, window}
 use Rattle.schedule.proofs.OpenLaws.{open_by, open_of, shut_after, shut_before}
 use Rattle.schedule.specs.Schedule.{open_at}
 use Rattle.schedule.specs.declared.records.Opening.{Opening}
 use Rattle.schedule.specs.Inside.Numbers.{number_of}
-use Rattle.schedule.specs.Inside.Until.{changed_by, lengthened, lengthens, place_of, Scope, within}
+use Rattle.std.proofs.Common.{None, Option, Some, unwrap_or}
+use Rattle.std.proofs.lemmas.Option.{none-some}
+use Rattle.schedule.specs.declared.change.Scope.{Scope}
+use Rattle.schedule.specs.Inside.Until.{changed_by, changes_at, lengthened, lengthens, place_of, placed_of, within}
 
 -- ---- the place
 
@@ -23,7 +26,7 @@ use Rattle.schedule.specs.Inside.Until.{changed_by, lengthened, lengthens, place
 pub record Placed (w : Scope) (r : Opening) : Type 0 where
   pub number : number_of r ≡ w.start + place_of w r
   pub inside : place_of w r < window
-  pub late : w.t < r.to
+  pub late : w.minute < r.to
 
 module _ (w : Scope) (r : Opening) where
   -- it is looked at, or its place is `window`
@@ -31,7 +34,7 @@ module _ (w : Scope) (r : Opening) where
   unfolding place_of within
   place-or = elim (test (within w r)) [
     | inl e ↦ elim (inside-or w.start (number_of r)) [
-      | inl i ↦ inl (record { number = rw e i.number; inside = rw e i.below; late = ltb-true _ _ (and-true (ltb w.t r.to) _ e).0 })
+      | inl i ↦ inl (record { number = rw e i.number; inside = rw e i.below; late = ltb-true _ _ (and-true (ltb w.minute r.to) _ e).0 })
       | inr o ↦ inr (rw e o)
     ]
     | inr e ↦ inr (rw e)
@@ -40,26 +43,36 @@ module _ (w : Scope) (r : Opening) where
   pub placed : place_of w r < window → Placed w r
   placed h = elim place-or [ inl p ↦ p | inr e ↦ absurd (omega arith) ]
 
-  -- a record that has no minutes there,
-  pub place_ended : r.to ≤ w.t → window ≡ place_of w r
+  -- a record that has no minutes there, and one that has some
+  pub place_ended : r.to ≤ w.minute → ◌≡◌ {A = Option ℕ} None (placed_of w r)
+  unfolding placed_of within
+  place_ended h = rw (le-ltb w.minute r.to h)
+
+  pub place_late : w.limit ≤ r.from → ◌≡◌ {A = Option ℕ} None (placed_of w r)
+  unfolding placed_of within
+  place_late l = rw (le-ltb r.from w.limit l, and-false (ltb w.minute r.to))
+
+  pub place_looked : w.minute < r.to → r.from < w.limit → inside_of w.start (number_of r) ≡ placed_of w r
+  unfolding placed_of within
+  place_looked h l = rw (lt-ltb w.minute r.to h, lt-ltb r.from w.limit l)
+
+  pub place_at : (k : ℕ) → k < window → number_of r ≡ w.start + k → w.minute < r.to → r.from < w.limit → k ≡ place_of w r
   unfolding place_of within
-  place_ended h = rw (le-ltb w.t r.to h)
+  place_at k h e late early =
+      rw (lt-ltb w.minute r.to late, lt-ltb r.from w.limit early) (omega (arith, place_in_lem w.start (number_of r) (omega arith) (omega arith)))
 
-  pub place_late : w.t < r.to → w.limit ≤ r.from → window ≡ place_of w r
-  unfolding place_of within
-  place_late h l = rw (lt-ltb w.t r.to h, le-ltb r.from w.limit l)
+-- from what `place` answers
+module _ (w : Scope) (r : Opening) {o : Option ℕ} (e : o ≡ placed_of w r) where
+  pub place_some : {k : ℕ} → o ≡ Some k → (k ≡ place_of w r) × (k < window)
+  unfolding placed_of place_of
+  place_some {k} f = elim (test (within w r)) [
+    | inl t ↦ let s = placed_some w.start (number_of r) (rw t at e) f in (rw t (sym s.3), s.2)
+    | inr t ↦ absurd (none-some k (sym (rw t at e) ∙ f))
+  ]
 
-  -- and one that has some
-  pub place_looked : w.t < r.to → r.from < w.limit → place_in w.start (number_of r) ≡ place_of w r
-  unfolding place_of within
-  place_looked h l = rw (lt-ltb w.t r.to h, lt-ltb r.from w.limit l)
-
-  pub place_at : (k : ℕ) → k < window → number_of r ≡ w.start + k → w.t < r.to → r.from < w.limit → k ≡ place_of w r
-  place_at k h e late early = omega (arith, place_in_lem w.start (number_of r) (omega arith) (omega arith), place_looked late early)
-
--- a record that is looked at has a place within the table
-pub place_below : (w : Scope) (r : Opening) {k : ℕ} → k ≡ place_of w r → k ≢ window → k < window
-place_below w r at d = elim (place-or w r) [ inl p ↦ omega (arith, p.inside) | inr e ↦ absurd (d (at ∙ e)) ]
+  pub place_none : o ≡ None → place_of w r ≡ window
+  unfolding placed_of place_of
+  place_none f = elim (test (within w r)) [ inl t ↦ rw t (placed_none w.start (number_of r) (rw t at e) f) | inr t ↦ rw t ]
 
 -- ---- what the record does there
 
@@ -87,20 +100,20 @@ module _ (w : Scope) (until : List ℕ) (r : Opening) where
   unfolding lengthened
   lengthened-not e = rw e
 
+  still : lengthens w until r ≡ false → (false ≡ lengthens w until r) × (until ≡ lengthened w until r)
+  still e = (sym e, lengthened-not e)
+
+  pub outside_still : place_of w r ≡ window → (false ≡ lengthens w until r) × (until ≡ lengthened w until r)
+  unfolding lengthens
+  outside_still e = still (rw e)
+
+  pub outside_changes : place_of w r ≡ window → ◌≡◌ {A = Option ℕ} None (changes_at w until r)
+  unfolding changes_at
+  outside_changes e = rw e
+
   module _ {k : ℕ} (at : k ≡ place_of w r) where
     abbrev last : ℕ
     last = get_or until k 0
-
-    still : lengthens w until r ≡ false → (false ≡ lengthens w until r) × (until ≡ lengthened w until r)
-    still e = (sym e, lengthened-not e)
-
-    pub outside_still : k ≡ window → (false ≡ lengthens w until r) × (until ≡ lengthened w until r)
-    unfolding lengthens
-    outside_still e = still (rw (← at, e))
-
-    pub outside_changes : k ≡ window → w.limit ≡ changed_by w until r
-    unfolding changed_by
-    outside_changes e = rw (← at, e)
 
     module _ (h : k < window) where
       opens_longer : lengthens w until r ≡ open_at r last
@@ -117,14 +130,26 @@ module _ (w : Scope) (until : List ℕ) (r : Opening) where
       open_moves b l = let e = opens_longer ∙ open_by r last b l in (sym e, rw at (lengthened_so e))
 
       -- the minute at which its pair first differs
-      pub linked_changes : w.t < last → last ≡ changed_by w until r
-      unfolding changed_by
-      linked_changes l = rw (← at, lt-ltb k window h, lt-ltb w.t last l)
+      pub linked_at : w.minute < last → Some last ≡ changes_at w until r
+      unfolding changes_at
+      linked_at l = rw (← at, lt-ltb k window h, lt-ltb w.minute last l)
 
-      pub unlinked_changes : last ≤ w.t → r.from ≡ changed_by w until r
+      pub unlinked_at : last ≤ w.minute → Some r.from ≡ changes_at w until r
+      unfolding changes_at
+      unlinked_at l = rw (← at, lt-ltb k window h, le-ltb w.minute last l)
+
+      pub linked_changes : w.minute < last → last ≡ changed_by w until r
       unfolding changed_by
-      unlinked_changes l = rw (← at, lt-ltb k window h, le-ltb w.t last l)
+      linked_changes l = ap (λ o. unwrap_or o w.limit) (linked_at l)
+
+      pub unlinked_changes : last ≤ w.minute → r.from ≡ changed_by w until r
+      unfolding changed_by
+      unlinked_changes l = ap (λ o. unwrap_or o w.limit) (unlinked_at l)
 
 -- a record that tells of a minute before the limit is looked at
 pub changes_placed : (w : Scope) (until : List ℕ) (r : Opening) → changed_by w until r < w.limit → Placed w r
-changes_placed w until r l = elim (place-or w r) [ inl p ↦ p | inr e ↦ absurd (omega (arith, outside_changes w until r refl e)) ]
+unfolding changed_by
+changes_placed w until r l = elim (place-or w r) [
+  | inl p ↦ p
+  | inr e ↦ absurd (omega (arith, ap (λ o. unwrap_or o w.limit) (outside_changes w until r e)))
+]

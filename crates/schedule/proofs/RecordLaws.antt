@@ -9,7 +9,8 @@ use native.Mathlib.Numerals.{add-one}
 use native.Mathlib.Omega.{arith}
 use borrow.Author.Tests.{eq-eqb, eqb-false, eqb-true, le-leb, leb-false, lt-leb, ne_eqb, not-false}
 use lib.Dec.{eqb, leb}
-use lib.ListN.{length}
+use lib.ListN.{get_or, length}
+use Rattle.std.proofs.Common.{Fits, w8}
 use Rattle.arith.proofs.Sums.{any_to_false}
 use Rattle.arith.proofs.Tests.{or_false_both, test}
 use Rattle.arith.specs.Sums.{any_to, tabulate}
@@ -37,7 +38,7 @@ module _ (schedule : List ℕ) (cs : List Condition) where
   unfolding refusal bad_schedule
   passed_form h e = rw (ne_eqb (length schedule) 0 (λ z. omega arith), eq-eqb ((length schedule - 1) % record_bytes) 0 e)
 
--- from what `form_refusal` answers
+-- from what `check_form` answers
 module _ (schedule : List ℕ) {r : ℕ} (e : r ≡ refusal (bad_schedule schedule ∷ [])) where
   good : r ≡ 0 → (0 < length schedule) × ((length schedule - 1) % record_bytes ≡ 0)
   unfolding bad_schedule
@@ -151,7 +152,7 @@ module _ (schedule : List ℕ) where
       hours = leb-false (this i).to (this i).from (any_to_false _ k hours_passed i h);
     }
 
--- from what `record_refusal` answers
+-- from what `check_records` answers
 module _ (schedule : List ℕ) {r : ℕ} (e : r ≡ refusal (record_conditions schedule)) where
   pub records_rest : r ≡ 0 → (cs : List Condition) → refusal (record_conditions schedule ++ cs) ≡ refusal cs
   records_rest z = passed_rest schedule (sym e ∙ z)
@@ -161,8 +162,12 @@ module _ (schedule : List ℕ) {r : ℕ} (e : r ≡ refusal (record_conditions s
 
 -- ---- a valid schedule
 
-pub valid_by : (schedule : List ℕ) → 0 < length schedule → schedule_nodes schedule ≤ max_nodes → refusal (record_conditions schedule) ≡ 0 → Valid schedule
-valid_by schedule h f e = record { some = h; few = f; each = sounds_by schedule e }
+-- the first byte is a byte
+pub nodes_few : (schedule : List ℕ) → Fits w8 (get_or schedule 0 0) → schedule_nodes schedule ≤ max_nodes
+nodes_few schedule h = omega arith
+
+pub valid_by : (schedule : List ℕ) → Fits w8 (get_or schedule 0 0) → 0 ≡ refusal (bad_schedule schedule ∷ []) → 0 ≡ refusal (record_conditions schedule) → Valid schedule
+valid_by schedule h f e = record { some = form_some schedule f refl; few = nodes_few schedule h; each = sounds_by schedule (sym e) }
 
 pub sound_at : {schedule : List ℕ} {i : ℕ} {r : Opening} → Valid schedule → i < record_count schedule → r ≡ opening_at schedule i → Sound max_nodes r
 sound_at {i = i} v h e =

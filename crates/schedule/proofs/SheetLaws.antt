@@ -3,7 +3,7 @@ use mathlib.Core.Bool.{cond, false, or-false, true, ◌&&◌, ◌||◌}
 use mathlib.Core.List.{List}
 use mathlib.Core.Logic.{inl, inr}
 use mathlib.Core.Path.{ap, refl, sym, ◌∙◌, ◌≡◌}
-use Prim.Native.Nat.{◌+◌, suc, ℕ}
+use Prim.Native.Nat.{◌+◌, suc, ℕ, ◌≤◌}
 use native.Mathlib.Nat.{le_refl}
 use native.Mathlib.Numerals.{add-one}
 use native.Mathlib.Omega.{arith}
@@ -21,7 +21,9 @@ use Rattle.packed.specs.Inside.Room.{Room}
 use Rattle.packed.specs.Pairs.{max_nodes}
 use Rattle.ego.proofs.Agreement.{Agree}
 use Rattle.state.specs.Inside.MaxSizes.{max_edge_bytes}
+use Rattle.state.specs.Sizes.{edge_bytes, snapshot_bytes}
 use Rattle.calls.proofs.MadeLaws.{made_room}
+use Rattle.calls.proofs.SnapshotLaws.{bytes_small}
 use Rattle.schedule.proofs.NumberLaws.{schedule_numbered}
 use Rattle.schedule.specs.Schedule.{linked_at, open_at, opening_at, schedule_nodes}
 use Rattle.schedule.specs.Sheet.{edges_at}
@@ -76,3 +78,13 @@ pub sheet_agree : (schedule : List ℕ) (t : ℕ) → Sounds schedule → Agree 
 sheet_agree schedule t v =
     let h = schedule_numbered schedule v t in
     edge-edges_of (linked_at schedule t) (schedule_nodes schedule) (numbered_comm h) h.self
+
+-- ---- how long the sheet is, from what `nodes` and `edge_bytes` answer
+
+module _ (schedule : List ℕ) {n e : ℕ} (is : n ≡ schedule_nodes schedule) (q : e ≡ edge_bytes n) where
+  pub size_is : 1 + e ≡ snapshot_bytes (schedule_nodes schedule)
+  size_is = ap (λ k. 1 + k) q ∙ ap snapshot_bytes is
+
+  -- it is a part of what is made
+  pub size_within : n ≤ max_nodes → 1 + e ≤ suc max_edge_bytes
+  size_within h = omega (arith, bytes_small n h)

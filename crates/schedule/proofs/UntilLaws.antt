@@ -19,15 +19,16 @@ use Rattle.schedule.specs.Change.{minutes}
 use Rattle.schedule.specs.Schedule.{opening_at, record_count}
 use Rattle.schedule.specs.declared.records.Opening.{Opening}
 use Rattle.schedule.specs.Inside.Numbers.{linked_no}
-use Rattle.schedule.specs.Inside.Until.{Lasts, lengthened, lengthens, moved_to, pass_to, place_of, Rests, Scope, scope}
+use Rattle.schedule.specs.declared.change.Scope.{Scope}
+use Rattle.schedule.specs.Inside.Until.{Lasts, lengthened, lengthens, moved_to, pass_to, place_of, Rests}
 
 -- ---- at the start each pair's minute is t
 
-pub lasts_begin : (schedule : List ℕ) (start t limit : ℕ) → t < minutes → Lasts schedule (scope start t limit) (replicate window t)
-lasts_begin schedule start t limit h =
-    let at : (k : ℕ) → k < window → get_or (replicate window t) k 0 ≡ t = λ k l. get_or-replicate window k t 0 l in
+pub lasts_begin : (schedule : List ℕ) (w : Scope) → w.minute < minutes → Lasts schedule w (replicate window w.minute)
+lasts_begin schedule w h =
+    let at : (k : ℕ) → k < window → get_or (replicate window w.minute) k 0 ≡ w.minute = λ k l. get_or-replicate window k w.minute 0 l in
     record {
-      long = length-replicate {A = ℕ} window t;
+      long = length-replicate {A = ℕ} window w.minute;
       begun = λ k l. omega (arith, at k l);
       fits = λ k l. omega (arith, at k l);
       linked = λ k l m a b. absurd (omega (arith, at k l));

@@ -3,10 +3,9 @@ use Rattle.std.specs.Prelude.{Bool, true, false, cond, List, ◌∷◌, ℕ, ◌
 use Rattle.arith.specs.Lists.{least_from}
 use Rattle.packed.specs.Bits.{differ}
 use Rattle.packed.specs.Pairs.{any_pair}
+use Rattle.state.specs.Answers.{Found, At, Nowhere, Refused}
 use Rattle.state.specs.Refusal.{Condition, refusal}
 use Rattle.schedule.specs.Schedule.{schedule_nodes, linked_at, bad_schedule, record_conditions}
-use Rattle.schedule.specs.declared.change.Change.{Change}
-use Rattle.schedule.specs.declared.change.Change.TheVariants.{At, Never, Refused}
 
 -- a minute is a number of 16 bits, below this one
 abbrev pub minutes : ℕ
@@ -38,14 +37,14 @@ next_of schedule t =
     (record { refusal = r; some = false; minute = 0 })
 
 -- these numbers for each case of the answer
-unfoldable pub numbers_of : Change → Next
+unfoldable pub numbers_of : Found ℕ → Next
 numbers_of (At m) = record { refusal = 0; some = true; minute = m }
-numbers_of Never = record { refusal = 0; some = false; minute = 0 }
+numbers_of Nowhere = record { refusal = 0; some = false; minute = 0 }
 numbers_of (Refused r) = record { refusal = r; some = false; minute = 0 }
 
 -- the answer
-unfoldable pub change_call : List ℕ → ℕ → Change
+unfoldable pub change_call : List ℕ → ℕ → Found ℕ
 change_call schedule t =
     let r : ℕ = refusal (change_conditions schedule) in
     let m : ℕ = first_differing schedule t in
-    cond (eqb r 0) (cond (ltb m minutes) (At m) Never) (Refused r)
+    cond (eqb r 0) (cond (ltb m minutes) (At m) Nowhere) (Refused r)

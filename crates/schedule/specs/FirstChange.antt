@@ -1,9 +1,9 @@
 -- What the answer to the next change says of every minute, in the words of the request. Assumes nothing.
 use Rattle.std.specs.Prelude.{◌↔◌, ◌≢◌, List, ◌≡◌, ℕ, ◌<◌, ◌≤◌}
+use Rattle.state.specs.Answers.{At, Nowhere, Refused}
 use Rattle.state.specs.Refusal.{refusal}
 use Rattle.schedule.specs.Schedule.{schedule_nodes, linked_at}
 use Rattle.schedule.specs.Change.{change_call, change_conditions}
-use Rattle.schedule.specs.declared.change.Change.TheVariants.{At, Never, Refused}
 
 -- every link at minute m is as at t
 abbrev pub AsAt : List ℕ → ℕ → ℕ → Type 0
@@ -21,6 +21,6 @@ pub record NextChange : Type 0 where
   pub minute : (schedule : List ℕ) (t m : ℕ) → refusal (change_conditions schedule) ≡ 0 → (change_call schedule t ≡ At m) ↔ FirstChange schedule t m
   -- none exactly if at every later minute, of any number of bits, every link is as at t,
   pub never : (schedule : List ℕ) (t : ℕ) → refusal (change_conditions schedule) ≡ 0
-      → (change_call schedule t ≡ Never) ↔ ((m : ℕ) → t < m → AsAt schedule t m)
+      → (change_call schedule t ≡ Nowhere) ↔ ((m : ℕ) → t < m → AsAt schedule t m)
   -- and otherwise the call is refused.
   pub refused : (schedule : List ℕ) (t : ℕ) → refusal (change_conditions schedule) ≢ 0 → change_call schedule t ≡ Refused (refusal (change_conditions schedule))

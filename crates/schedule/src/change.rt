@@ -1,160 +1,149 @@
 // The call that finds the next change of a schedule. The pairs are looked at in windows of their numbers: for each pair of a window a table holds how
 // long it stays linked from the given minute on.
-ghost use Rattle.std.specs.Prelude.{◌≡◌, ◌+◌, ◌<◌, ◌≤◌, length};
+ghost use Rattle.std.specs.Prelude.{◌≡◌, ◌*◌, ◌+◌, ◌<◌, ◌≤◌, length};
 ghost use Rattle.packed.specs.Pairs.{max_nodes};
 ghost use Rattle.packed.specs.Inside.Search.{FirstFrom};
 ghost use Rattle.packed.specs.Inside.Windows.{window};
+ghost use Rattle.state.specs.Answers.{found};
 ghost use Rattle.schedule.specs.Schedule.{record_count};
-ghost use Rattle.schedule.specs.Change.{change_call, first_differing, minutes, next_of, numbers_of};
+ghost use Rattle.schedule.specs.Change.{change_call, minutes, next_of, numbers_of};
 ghost use Rattle.schedule.specs.Inside.Numbers.{differs_in};
 ghost use Rattle.schedule.specs.Inside.Records.{Sound, Valid};
-ghost use Rattle.schedule.specs.Inside.Until.{changed_by, changed_to, lengthened, lengthens, moved_to, pass_to, place_of, scope};
+ghost use Rattle.schedule.specs.Inside.Until.{change_at, changed_to, changes_at, lengthened, lengthens, moved_to, pass_to, placed_of};
 
-use crate::records::{Opening, count, form_refusal, nodes, opening_at, record_refusal};
+use crate::records::{Opening, check_form, check_records, count, nodes, opening_at};
 use packed::edges::{number, row_start};
-use packed::runs::least;
 use packed::windows::WINDOW;
+use state::refusal::Refusal;
 
 // A minute is below this number.
 const MINUTES: usize = 65536;
 
-// The answer.
-#[derive(Drop)]
-pub enum Change {
-    // The first minute at which a link differs.
-    At { minute: u16 },
-    // No link differs at any later minute.
-    Never,
-    Refused { refusal: u64 },
+// What is looked at: the pairs of the window that begins with the number `start`, from `minute` on, up to a limit.
+#[derive(Clone, Copy)]
+struct Scope {
+    start: usize,
+    minute: u16,
+    limit: usize,
 }
 
-// The place of a record's pair in the window from `start` on. It is WINDOW where the pair is in another, or where the record has no minute after
-// `minute` and before the limit.
-fn place(r: Opening, start: usize, minute: u16, limit: usize) -> usize
-    requires { Sound max_nodes r }
-    ensures { result ≡ place_of (scope start minute limit) r }
-{
-    if r.to <= minute {
-        return WINDOW;
-    }
-    if limit <= r.from as usize {
-        return WINDOW;
-    }
-    packed::windows::place(number(r.a, r.b), start)
-}
-
-// A record that is open at its pair's minute makes the pair last up to its `to`; whether it did.
-fn lengthen(until: &mut [u16], r: Opening, start: usize, minute: u16, limit: usize) -> bool
-    requires { Sound max_nodes r × (length until.old ≡ window) }
-    ensures { (result ≡ lengthens (scope start minute limit) until.old r)
-        × (until.new ≡ lengthened (scope start minute limit) until.old r) }
-{
-    let k = place(r, start, minute, limit);
-    if k == WINDOW {
-        return false;
-    }
-    let last = until[k];
-    if last < r.from {
-        return false;
-    }
-    if r.to <= last {
-        return false;
-    }
-    until[k] = r.to;
-    true
-}
-
-// So for every record, in their order; whether one of them did.
-fn pass(until: &mut [u16], schedule: &[u8], start: usize, minute: u16, limit: usize) -> bool
-    requires { Valid schedule.now × (length until.old ≡ window) }
-    ensures { (result ≡ moved_to schedule.now (scope start minute limit) until.old (record_count schedule.now))
-        × (until.new ≡ pass_to schedule.now (scope start minute limit) until.old (record_count schedule.now)) }
-{
-    let mut moved = false;
-    for i in 0..count(schedule) {
-        if lengthen(until, opening_at(schedule, i), start, minute, limit) {
-            moved = true;
+impl Scope {
+    // The place of a record's pair in the window. There is none where the pair is in another, or where the record has no minute after `minute` and before
+    // the limit.
+    fn place(self, r: Opening) -> Option<usize>
+        requires { Sound max_nodes r }
+        ensures { result ≡ placed_of self r }
+    {
+        if r.to <= self.minute || self.limit <= usize::from(r.from) {
+            return None;
         }
+        packed::windows::place(number(r.a, r.b), self.start)
     }
-    moved
+
+    // The first minute before the limit at which a pair of the window differs. Where none does it is the limit, and no `None`: the next window takes it as
+    // its own limit either way. A pair's minute is known once a pass moves none.
+    fn change(self, schedule: &[u8]) -> usize
+        requires { Valid schedule.now × (self.minute < self.limit) × (self.limit ≤ minutes) }
+        ensures { FirstFrom (differs_in schedule.now self.start (self.start + window) self.minute) (self.minute + 1) self.limit result }
+    {
+        let mut table = Table {
+            scope: self,
+            until: [self.minute; WINDOW],
+        };
+        while table.pass(schedule) {}
+        table.first(schedule)
+    }
 }
 
-// The minute at which a record's pair first differs, as far as the record tells: where the pair is linked at `minute`, that up to which it lasts, and
-// elsewhere the record's `from`. It is the limit where the record has no place in the window.
-fn changed_by(until: &[u16], r: Opening, start: usize, minute: u16, limit: usize) -> usize
-    requires { Sound max_nodes r × (length until.now ≡ window) }
-    ensures { result ≡ changed_by (scope start minute limit) until.now r }
-{
-    let k = place(r, start, minute, limit);
-    if k == WINDOW {
-        return limit;
-    }
-    let last = until[k];
-    if minute < last {
-        return last as usize;
-    }
-    r.from as usize
+// Up to which minute each pair of the window stays linked, as far as the records tell.
+#[derive(Drop)]
+struct Table {
+    scope: Scope,
+    until: [u16; WINDOW],
 }
 
-// The first of these minutes.
-fn first_in(until: &[u16], schedule: &[u8], start: usize, minute: u16, limit: usize) -> usize
-    requires { Valid schedule.now × (length until.now ≡ window) }
-    ensures { result ≡ changed_to schedule.now (scope start minute limit) until.now (record_count schedule.now) }
-{
-    let mut first = limit;
-    for i in 0..count(schedule) {
-        first = least(
-            first,
-            changed_by(until, opening_at(schedule, i), start, minute, limit),
-        );
+impl Table {
+    // A record that is open at its pair's minute makes the pair last up to its `to`; whether it did.
+    fn lengthen(&mut self, r: Opening) -> bool
+        requires { Sound max_nodes r }
+        ensures moves { result ≡ lengthens self.old.scope self.old.until r }
+        ensures lasts { self.new.until ≡ lengthened self.old.scope self.old.until r }
+        ensures same { self.new.scope ≡ self.old.scope }
+    {
+        let Some(k) = self.scope.place(r) else {
+            return false;
+        };
+        let last = self.until[k];
+        if last < r.from || r.to <= last {
+            return false;
+        }
+        self.until[k] = r.to;
+        true
     }
-    first
+
+    // So for every record, in their order; whether one of them did.
+    fn pass(&mut self, schedule: &[u8]) -> bool
+        requires { Valid schedule.now }
+        ensures moves { result ≡ moved_to schedule.now self.old.scope self.old.until (record_count schedule.now) }
+        ensures lasts { self.new.until ≡ pass_to schedule.now self.old.scope self.old.until (record_count schedule.now) }
+        ensures same { self.new.scope ≡ self.old.scope }
+    {
+        let mut moved = false;
+        for i in 0..count(schedule) {
+            moved |= self.lengthen(opening_at(schedule, i));
+        }
+        moved
+    }
+
+    // The minute at which a record's pair first differs, as far as the record tells: where the pair is linked at `minute`, that up to which it lasts, and
+    // elsewhere the record's `from`. There is none where the record has no place in the window.
+    fn changed_by(&self, r: Opening) -> Option<u16>
+        requires { Sound max_nodes r }
+        ensures { result ≡ changes_at self.now.scope self.now.until r }
+    {
+        let k = self.scope.place(r)?;
+        let last = self.until[k];
+        let minute = self.scope.minute;
+        Some(if minute < last { last } else { r.from })
+    }
+
+    // The first of these minutes that is before the limit; the limit where none is, for the next window.
+    fn first(&self, schedule: &[u8]) -> usize
+        requires { Valid schedule.now }
+        ensures { result ≡ changed_to schedule.now self.now.scope self.now.until (record_count schedule.now) }
+    {
+        let mut first = self.scope.limit;
+        for i in 0..count(schedule) {
+            if let Some(changed) = self.changed_by(opening_at(schedule, i)) {
+                first = first.min(usize::from(changed));
+            }
+        }
+        first
+    }
 }
 
-// The first minute before the limit at which a pair of the window differs, and the limit where none does. A pair's minute is known once a pass moves none.
-fn change_in(schedule: &[u8], start: usize, minute: u16, limit: usize) -> usize
-    requires { Valid schedule.now × (minute < limit) × (limit ≤ minutes) }
-    ensures { FirstFrom (differs_in schedule.now start (start + window) minute) (minute + 1) limit result }
-{
-    let mut until = [minute; WINDOW];
-    let mut moved = true;
-    while moved {
-        moved = pass(&mut until[..], schedule, start, minute, limit);
-    }
-    first_in(&until[..], schedule, start, minute, limit)
-}
-
-// The first minute after `minute` at which any pair differs, and MINUTES where none does.
-fn first_change(schedule: &[u8], minute: u16) -> usize
+// The first minute after `minute` at which any pair differs.
+fn first_change(schedule: &[u8], minute: u16) -> Option<u16>
     requires { Valid schedule.now }
-    ensures { result ≡ first_differing schedule.now minute }
+    ensures { result ≡ change_at schedule.now minute }
 {
-    let end = row_start(nodes(schedule));
-    let mut first = MINUTES;
-    let mut start: usize = 0;
-    while start < end {
-        first = change_in(schedule, start, minute, first);
-        start += WINDOW;
+    let mut limit = MINUTES;
+    for start in (0..row_start(nodes(schedule))).step_by(WINDOW) {
+        let scope = Scope {
+            start,
+            minute,
+            limit,
+        };
+        limit = scope.change(schedule);
     }
-    first
+    u16::try_from(limit).ok()
 }
 
 // The first minute after `minute` at which any link differs from its state then.
-pub fn next_change(schedule: &[u8], minute: u16) -> Change
-    ensures { (result ≡ change_call schedule.now minute) × (numbers_of result ≡ next_of schedule.now minute) }
+pub fn next_change(schedule: &[u8], minute: u16) -> Result<Option<u16>, Refusal>
+    ensures { (found result ≡ change_call schedule.now minute) × (numbers_of (found result) ≡ next_of schedule.now minute) }
 {
-    let form = form_refusal(schedule);
-    if form != 0 {
-        return Change::Refused { refusal: form };
-    }
-    let records = record_refusal(schedule);
-    if records != 0 {
-        return Change::Refused { refusal: records };
-    }
-    let first = first_change(schedule, minute);
-    if first < MINUTES {
-        let minute = first as u16;
-        return Change::At { minute };
-    }
-    Change::Never
+    check_form(schedule)?;
+    check_records(schedule)?;
+    Ok(first_change(schedule, minute))
 }

@@ -1,11 +1,11 @@
 // The records of a schedule, and the refusals of those that are not sound.
 ghost use Rattle.std.specs.Prelude.{◌≡◌, [], ◌∷◌, ◌<◌, length};
+ghost use Rattle.state.specs.Answers.{refusal_of};
 ghost use Rattle.state.specs.Refusal.{refusal};
 ghost use Rattle.schedule.specs.Schedule.{bad_schedule, opening_at, record_conditions, record_count, schedule_nodes};
 ghost use Rattle.schedule.specs.Inside.Records.{opening_conditions};
 
-use packed::runs::{bytes_at, field};
-use state::refusal::{MALFORMED, NO_HOURS, earlier, pair_refusal};
+use state::refusal::{Refusal, check_pair, earlier};
 
 // The bytes of a record.
 const RECORD_BYTES: usize = 6;
@@ -20,16 +20,13 @@ pub struct Opening {
 }
 
 // Refusal 9: the schedule is empty, or is not its first byte and whole records.
-pub(crate) fn form_refusal(schedule: &[u8]) -> u64
-    ensures { result ≡ refusal (bad_schedule schedule.now ∷ []) }
+pub(crate) fn check_form(schedule: &[u8]) -> Result<(), Refusal>
+    ensures { refusal_of result ≡ refusal (bad_schedule schedule.now ∷ []) }
 {
-    if schedule.len() == 0 {
-        return MALFORMED;
+    if schedule.is_empty() || (schedule.len() - 1) % RECORD_BYTES != 0 {
+        return Err(Refusal::Malformed);
     }
-    if (schedule.len() - 1) % RECORD_BYTES != 0 {
-        return MALFORMED;
-    }
-    0
+    Ok(())
 }
 
 // The number of nodes.
@@ -37,7 +34,7 @@ pub(crate) fn nodes(schedule: &[u8]) -> usize
     requires { 0 < length schedule.now }
     ensures { result ≡ schedule_nodes schedule.now }
 {
-    schedule[0] as usize + 1
+    usize::from(schedule[0]) + 1
 }
 
 // The number of records.
@@ -53,36 +50,33 @@ pub(crate) fn opening_at(schedule: &[u8], i: usize) -> Opening
     requires { i < record_count schedule.now }
     ensures { result ≡ opening_at schedule.now i }
 {
-    let record = bytes_at(schedule, 1 + RECORD_BYTES * i, RECORD_BYTES);
+    let at = 1 + RECORD_BYTES * i;
     Opening {
-        a: field(record, 40, 8) as usize,
-        b: field(record, 32, 8) as usize,
-        from: field(record, 16, 16) as u16,
-        to: field(record, 0, 16) as u16,
+        a: usize::from(schedule[at]),
+        b: usize::from(schedule[at + 1]),
+        from: u16::from_be_bytes([schedule[at + 2], schedule[at + 3]]),
+        to: u16::from_be_bytes([schedule[at + 4], schedule[at + 5]]),
     }
 }
 
 // The first of refusals 4, 5 and 13 that a record gives.
-fn fault(r: Opening, n: usize) -> u64
-    ensures { result ≡ refusal (opening_conditions n r) }
+fn fault(r: Opening, n: usize) -> Result<(), Refusal>
+    ensures { refusal_of result ≡ refusal (opening_conditions n r) }
 {
-    let pair = pair_refusal(n, r.a, r.b);
-    if pair != 0 {
-        return pair;
-    }
+    check_pair(n, r.a, r.b)?;
     if r.to <= r.from {
-        return NO_HOURS;
+        return Err(Refusal::NoHours);
     }
-    0
+    Ok(())
 }
 
 // Refusals 4, 5 and 13, each over all records.
-pub(crate) fn record_refusal(schedule: &[u8]) -> u64
+pub(crate) fn check_records(schedule: &[u8]) -> Result<(), Refusal>
     requires { 0 < length schedule.now }
-    ensures { result ≡ refusal (record_conditions schedule.now) }
+    ensures { refusal_of result ≡ refusal (record_conditions schedule.now) }
 {
     let n = nodes(schedule);
-    let mut first: u64 = 0;
+    let mut first = Ok(());
     for i in 0..count(schedule) {
         first = earlier(first, fault(opening_at(schedule, i), n));
     }

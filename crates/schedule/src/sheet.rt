@@ -4,6 +4,7 @@ ghost use Rattle.packed.specs.Bits.{bytes_of};
 ghost use Rattle.packed.specs.Edges.{with_edge};
 ghost use Rattle.packed.specs.Pairs.{max_nodes};
 ghost use Rattle.packed.specs.Inside.Room.{Room};
+ghost use Rattle.state.specs.Answers.{refusal_of};
 ghost use Rattle.state.specs.Outcome.{left};
 ghost use Rattle.state.specs.Inside.MaxSizes.{max_edge_bytes};
 ghost use Rattle.calls.specs.Snapshot.{written};
@@ -13,25 +14,21 @@ ghost use Rattle.schedule.specs.Inside.Numbers.{linked_no};
 ghost use Rattle.schedule.specs.Inside.Records.{Sound, Valid};
 ghost use Rattle.state.specs.State.{state};
 
-use crate::records::{Opening, count, form_refusal, nodes, opening_at, record_refusal};
+use crate::records::{Opening, check_form, check_records, count, nodes, opening_at};
 use calls::made::{MAX_SNAPSHOT, write_made};
 use calls::snapshot::load;
 use packed::edges::link;
-use state::refusal::LENGTH;
-use state::sizes::{edge_bytes, state_refusal};
+use state::refusal::Refusal;
+use state::sizes::{check_state, edge_bytes};
 
 // Links the two nodes of a record that is open at a minute.
 fn link_open(edges: &mut [u8], r: Opening, minute: u16)
     requires { Sound max_nodes r × Room max_nodes edges.old }
     ensures { edges.new ≡ cond (open_at r minute) (with_edge edges.old r.a r.b true) edges.old }
 {
-    if minute < r.from {
-        return;
+    if r.from <= minute && minute < r.to {
+        link(edges, r.a, r.b, true);
     }
-    if r.to <= minute {
-        return;
-    }
-    link(edges, r.a, r.b, true);
 }
 
 // Links the nodes of every record that is open at a minute.
@@ -54,24 +51,18 @@ fn make_at(snapshot: &mut [u8], schedule: &[u8], minute: u16)
 }
 
 // Writes the snapshot of a schedule at a minute to a buffer of exactly its length.
-pub fn write_at(schedule: &[u8], minute: u16, snapshot: &mut [u8]) -> u64
-    ensures { written result snapshot.new ≡ write_at_call schedule.now minute snapshot.old }
+pub fn write_at(schedule: &[u8], minute: u16, snapshot: &mut [u8]) -> Result<(), Refusal>
+    ensures { written (refusal_of result) snapshot.new ≡ write_at_call schedule.now minute snapshot.old }
 {
-    let form = form_refusal(schedule);
-    if form != 0 {
-        return form;
-    }
+    check_form(schedule)?;
     let n = nodes(schedule);
     if snapshot.len() != 1 + edge_bytes(n) {
-        return LENGTH;
+        return Err(Refusal::Length);
     }
-    let records = record_refusal(schedule);
-    if records != 0 {
-        return records;
-    }
+    check_records(schedule)?;
     let mut made = [0u8; MAX_SNAPSHOT];
-    make_at(&mut made[..], schedule, minute);
-    write_made(snapshot, &made[..], n)
+    make_at(&mut made, schedule, minute);
+    write_made(snapshot, &made, n)
 }
 
 // Loads the snapshot of a schedule at a minute.
@@ -81,23 +72,14 @@ pub fn load_at(
     marks: &mut [u8],
     schedule: &[u8],
     minute: u16,
-) -> u64
-    ensures { left result (state edges.new figures.new marks.new) ≡ load_at_call (state edges.old figures.old marks.old) schedule.now minute }
+) -> Result<(), Refusal>
+    ensures { left (refusal_of result) (state edges.new figures.new marks.new) ≡ load_at_call (state edges.old figures.old marks.old) schedule.now minute }
 {
-    let form = form_refusal(schedule);
-    if form != 0 {
-        return form;
-    }
-    let lengths = state_refusal(figures.len(), edges.len(), marks.len());
-    if lengths != 0 {
-        return lengths;
-    }
-    let records = record_refusal(schedule);
-    if records != 0 {
-        return records;
-    }
+    check_form(schedule)?;
+    check_state(figures.len(), edges.len(), marks.len())?;
+    check_records(schedule)?;
     let mut made = [0u8; MAX_SNAPSHOT];
-    make_at(&mut made[..], schedule, minute);
+    make_at(&mut made, schedule, minute);
     let size = 1 + edge_bytes(nodes(schedule));
     load(edges, figures, marks, &made[..size])
 }

@@ -7,10 +7,9 @@ use Rattle.arith.specs.Digits.{bit_of, digit}
 use Rattle.arith.specs.Sums.{any_to}
 use Rattle.packed.specs.Bits.{bit_at, word_of}
 use Rattle.script.specs.Moves.{reader_after, start_of, yields}
-use Rattle.script.specs.Record.{bits_left, ends_at, item_at, read_at}
+use Rattle.script.specs.Record.{Item, a_record, bits_left, ends_at, item_at, malformed, read_at, the_end}
 use Rattle.script.specs.declared.reader.Reader.{Reader}
-use Rattle.script.specs.declared.step.Item.{Item}
-use Rattle.script.specs.declared.step.Item.TheVariants.{Add, End, ListFirst, Malformed}
+use Rattle.script.specs.declared.step.Record.TheVariants.{Add, ListFirst}
 use Rattle.script.specs.declared.step.Step.{Step}
 
 -- 03 40 00 50 00 24 00 0F 01 00 00 00 00, in hexadecimal
@@ -26,7 +25,7 @@ abbrev yields_at : Item → ℕ → Step
 yields_at item at = record { item = item; at = at }
 
 pub listing_steps_lem : listing_steps
-    ≡ (yields_at (Add 0 1) 26 ∷ yields_at (Add 0 2) 44 ∷ yields_at (Add 0 3) 62 ∷ yields_at (ListFirst 2) 80 ∷ yields_at End 80 ∷ yields_at Malformed 98 ∷ [])
+    ≡ (yields_at (a_record (Add 0 1)) 26 ∷ yields_at (a_record (Add 0 2)) 44 ∷ yields_at (a_record (Add 0 3)) 62 ∷ yields_at (a_record (ListFirst 2)) 80 ∷ yields_at the_end 80 ∷ yields_at malformed 98 ∷ [])
 unfolding any_to bit_at bit_of bits_left digit ends_at item_at read_at word_of
 listing_steps_lem = refl
 
@@ -36,6 +35,6 @@ run zero r = []
 run (suc k) r = yields r ∷ run k (reader_after r)
 
 -- a reader over the listing, from its start; at the end it stays
-pub listing_read : (lent : Bor (List ℕ)) → lent.now ≡ listing_bytes → run 6 (start_of lent) ≡ (Add 0 1 ∷ Add 0 2 ∷ Add 0 3 ∷ ListFirst 2 ∷ End ∷ End ∷ [])
+pub listing_read : (lent : Bor (List ℕ)) → lent.now ≡ listing_bytes → run 6 (start_of lent) ≡ (a_record (Add 0 1) ∷ a_record (Add 0 2) ∷ a_record (Add 0 3) ∷ a_record (ListFirst 2) ∷ the_end ∷ the_end ∷ [])
 unfolding any_to bit_at bit_of bits_left digit ends_at item_at read_at word_of
 listing_read lent e = ap (λ (s : List ℕ). run 6 (start_of (record { ref_ptr = lent.ref_ptr; now = s }))) e

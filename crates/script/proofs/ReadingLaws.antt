@@ -15,10 +15,10 @@ use Rattle.packed.specs.Bits.{bit_at}
 use Rattle.script.proofs.RecordLaws.{item_few, left_room}
 use Rattle.script.specs.Limits.{max_bytes, record_bits}
 use Rattle.script.specs.Reading.{Reading, reading_at, reading_of, well_formed}
-use Rattle.script.specs.Record.{a_at, b_at, bits_left, ends_at, item_at, item_of, kind_at, past_item, read_at}
+use Rattle.script.specs.Record.{Item, a_at, a_record, b_at, bits_left, ends_at, item_at, item_of, kind_at, malformed, past_item, read_at, the_end}
 use Rattle.script.specs.declared.step.Step.{Step}
-use Rattle.script.specs.declared.step.Item.{Item}
-use Rattle.script.specs.declared.step.Item.TheVariants.{Add, End, ListFirst, Malformed, Remove}
+use Rattle.script.specs.declared.step.Record.TheVariants.{Add, ListFirst, Remove}
+use Rattle.std.proofs.Common.{Some, None, Ok, Err}
 
 -- where an end ends the script, its numbers are 0
 ends_zero : (script : List ℕ) (at : ℕ) → ends_at script at ≡ true → (a_at script at ≡ 0) × (b_at script at ≡ 0)
@@ -72,11 +72,9 @@ answered script at e = (e, ap (λ (s : Step). reading_of s.item s.at) e ∙ read
 
 -- no more than a record is passed
 past_bounds : (item : Item) (at : ℕ) → (at ≤ past_item item at) × (past_item item at ≤ at + record_bits)
-past_bounds (Add a b) at = (omega arith, omega arith)
-past_bounds (Remove a b) at = (omega arith, omega arith)
-past_bounds (ListFirst k) at = (omega arith, omega arith)
-past_bounds End at = (omega arith, omega arith)
-past_bounds Malformed at = (omega arith, omega arith)
+past_bounds (Ok (Some r)) at = (omega arith, omega arith)
+past_bounds (Ok None) at = (omega arith, omega arith)
+past_bounds (Err e) at = (omega arith, omega arith)
 
 module _ (script : List ℕ) (at : ℕ) where
   -- a record that is passed lies within the script
@@ -114,7 +112,7 @@ module _ (script : List ℕ) (at : ℕ) where
     | inr t ↦ rw t (omega arith)
   ]
 
-  pub list_small : {step : Step} {k : ℕ} → step ≡ read_at script at → ListFirst k ≡ step.item → k ≤ 256
+  pub list_small : {step : Step} {k : ℕ} → step ≡ read_at script at → a_record (ListFirst k) ≡ step.item → k ≤ 256
   unfolding reading_of
   list_small {step} {k} e l =
       let m : k - 1 ≡ (reading_at script at).a = ap (λ (x : Item). (reading_of x step.at).a) l ∙ ap (λ (x : Reading). x.a) (answered script at e).1 in

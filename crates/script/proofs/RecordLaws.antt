@@ -11,9 +11,8 @@ use lib.ListN.{length}
 use Rattle.packed.proofs.RunLaws.{run_cat_zero, run_none_set}
 use Rattle.packed.specs.Bits.{bit_at, run_of}
 use Rattle.script.specs.Limits.{max_bytes, record_bits}
-use Rattle.script.specs.Record.{a_at, b_at, bits_left, ends_at, item_at, item_of, kind_at, past_item}
-use Rattle.script.specs.declared.step.Item.{Item}
-use Rattle.script.specs.declared.step.Item.TheVariants.{Add, End, ListFirst, Malformed, Remove}
+use Rattle.script.specs.Record.{Item, a_at, a_record, b_at, bits_left, ends_at, item_at, item_of, kind_at, malformed, past_item, the_end}
+use Rattle.script.specs.declared.step.Record.TheVariants.{Add, ListFirst, Remove}
 
 -- what the reader has read at a position: enough bits are left, and the record's three numbers
 pub record RecordRead (script : List ℕ) (at left kind a b : ℕ) : Type 0 where
@@ -61,7 +60,7 @@ module _ (script : List ℕ) (at : ℕ) where
 
   -- ---- the records
 
-  pub item_few : (left : ℕ) → left ≡ bits_left script at → left < record_bits → Malformed ≡ item_at script at
+  pub item_few : (left : ℕ) → left ≡ bits_left script at → left < record_bits → malformed ≡ item_at script at
   unfolding item_at
   item_few left e h = rw (← e, lt-ltb left record_bits h)
 
@@ -71,25 +70,17 @@ module _ (script : List ℕ) (at : ℕ) where
     unfolding item_at
     by_kind = rw (← f.bits, ← f.kinds, ← f.first, ← f.second, le-ltb left record_bits f.enough)
 
-    pub item_add : kind ≡ 1 → Add a b ≡ item_at script at
+    pub item_add : kind ≡ 1 → a_record (Add a b) ≡ item_at script at
     item_add k = rw k at by_kind
 
-    pub item_remove : kind ≡ 2 → Remove a b ≡ item_at script at
+    pub item_remove : kind ≡ 2 → a_record (Remove a b) ≡ item_at script at
     item_remove k = rw k at by_kind
 
-    pub item_list : kind ≡ 3 → b ≡ 0 → ListFirst (a + 1) ≡ item_at script at
+    pub item_list : kind ≡ 3 → b ≡ 0 → a_record (ListFirst (a + 1)) ≡ item_at script at
     item_list k zb = rw (k, zb) at by_kind
 
-    pub item_list_b : kind ≡ 3 → (b ≡ 0 → ⊥) → Malformed ≡ item_at script at
+    pub item_list_b : kind ≡ 3 → (b ≡ 0 → ⊥) → malformed ≡ item_at script at
     item_list_b k db = rw (k, ne_eqb b 0 db) at by_kind
 
-    pub item_other : (kind ≡ 1 → ⊥) → (kind ≡ 2 → ⊥) → (kind ≡ 3 → ⊥) → {ends : Bool} → ends_at script at ≡ ends → cond ends End Malformed ≡ item_at script at
+    pub item_other : (kind ≡ 1 → ⊥) → (kind ≡ 2 → ⊥) → (kind ≡ 3 → ⊥) → {ends : Bool} → ends_at script at ≡ ends → cond ends the_end malformed ≡ item_at script at
     item_other d1 d2 d3 e = rw (ne_eqb kind 1 d1, ne_eqb kind 2 d2, ne_eqb kind 3 d3, e) at by_kind
-
--- the position past what is known to stand there
-module _ (at : ℕ) {item known : Item} (e : item ≡ known) where
-  pub past_known : past_item known at ≡ past_item item at
-  past_known = sym (ap (λ x. past_item x at) e)
-
-  pub past_below : past_item item at < 2 ^ 64 → past_item known at < 2 ^ 64
-  past_below h = rw past_known h

@@ -2,9 +2,8 @@
 use Rattle.std.specs.Prelude.{List, ℕ}
 use Rattle.std.specs.Borrow.{Bor}
 use Rattle.script.specs.Limits.{first_record}
-use Rattle.script.specs.Record.{read_at}
+use Rattle.script.specs.Record.{Item, read_at}
 use Rattle.script.specs.declared.reader.Reader.{Reader}
-use Rattle.script.specs.declared.step.Item.{Item}
 
 -- over the lent script, at its first record
 abbrev pub start_of : Bor (List ℕ) → Reader

@@ -1,9 +1,8 @@
 -- What stands at a position in 01's numbers, with nothing of the reader's own type, and those numbers for each case of that type. Assumes nothing.
-use Rattle.std.specs.Prelude.{Bool, cond, not, ◌&&◌, ◌||◌, List, ℕ, ◌+◌, ◌-◌, eqb, leb}
+use Rattle.std.specs.Prelude.{Bool, cond, not, ◌&&◌, ◌||◌, List, ℕ, ◌+◌, ◌-◌, eqb, leb, Some, None, Ok, Err}
 use Rattle.script.specs.Limits.{record_bits}
-use Rattle.script.specs.Record.{a_at, b_at, bits_left, ends_at, kind_at}
-use Rattle.script.specs.declared.step.Item.{Item}
-use Rattle.script.specs.declared.step.Item.TheVariants.{Add, Remove, ListFirst, End, Malformed}
+use Rattle.script.specs.Record.{Item, a_at, b_at, bits_left, ends_at, kind_at}
+use Rattle.script.specs.declared.step.Record.TheVariants.{Add, Remove, ListFirst}
 
 -- the refusal number, the record's kind, a and b, and the position that the reader is left at
 pub record Reading : Type 0 where
@@ -29,8 +28,8 @@ reading_at script at =
 
 -- the numbers of each case, with the position that the reader is left at
 unfoldable pub reading_of : Item → ℕ → Reading
-reading_of (Add a b) at = record { refusal = 0; kind = 1; a = a; b = b; position = at }
-reading_of (Remove a b) at = record { refusal = 0; kind = 2; a = a; b = b; position = at }
-reading_of (ListFirst k) at = record { refusal = 0; kind = 3; a = k - 1; b = 0; position = at }
-reading_of End at = record { refusal = 0; kind = 0; a = 0; b = 0; position = at }
-reading_of Malformed at = record { refusal = 9; kind = 0; a = 0; b = 0; position = at }
+reading_of (Ok (Some (Add a b))) at = record { refusal = 0; kind = 1; a = a; b = b; position = at }
+reading_of (Ok (Some (Remove a b))) at = record { refusal = 0; kind = 2; a = a; b = b; position = at }
+reading_of (Ok (Some (ListFirst k))) at = record { refusal = 0; kind = 3; a = k - 1; b = 0; position = at }
+reading_of (Ok None) at = record { refusal = 0; kind = 0; a = 0; b = 0; position = at }
+reading_of (Err e) at = record { refusal = 9; kind = 0; a = 0; b = 0; position = at }

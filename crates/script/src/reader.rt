@@ -24,7 +24,7 @@ impl<'a> Reader<'a> {
         }
     }
 
-    // Yields a record and moves past it, or keeps its position with the end or malformed.
+    // Yields a record and moves past it, or keeps its position at the end or at what is malformed.
     pub fn next(&mut self) -> Item
         ensures { (result ≡ yields self.old) × (self.new ≡ reader_after self.old)
             × (reading_of result self.new.at ≡ reading_at self.old.script.now self.old.at) }

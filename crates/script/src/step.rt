@@ -16,22 +16,26 @@ pub const FIRST_RECORD: usize = 8;
 // The bits of a record: its kind (2), a (8) and b (8).
 pub const RECORD_BITS: usize = 18;
 
-// What the reader yields.
-#[derive(Clone, Copy)]
-pub enum Item {
+// A record of a script.
+#[derive(Clone, Copy, Debug, PartialEq, Eq)]
+pub enum Record {
     // Links a and b.
     Add { a: usize, b: usize },
     // Takes the edge of a and b away.
     Remove { a: usize, b: usize },
     // Lists the first k nodes.
     ListFirst { k: usize },
-    End,
-    // Refusal 9.
-    Malformed,
 }
 
+// Refusal 9: what stands there is neither a record nor the end.
+#[derive(Clone, Copy, Debug, PartialEq, Eq)]
+pub struct Malformed;
+
+// What the reader yields: a record, or none at the end.
+pub type Item = Result<Option<Record>, Malformed>;
+
 // What the reader yields, and the position that it is left at.
-#[derive(Clone, Copy)]
+#[derive(Clone, Copy, Debug, PartialEq, Eq)]
 pub struct Step {
     pub item: Item,
     pub at: usize,
@@ -44,11 +48,7 @@ fn bits_left(script: &[u8], at: usize) -> usize
     if MAX_BYTES < script.len() {
         return 0;
     }
-    let bits = 8 * script.len();
-    if bits <= at {
-        return 0;
-    }
-    bits - at
+    (8 * script.len()).saturating_sub(at)
 }
 
 // Whether a record of kind 0 ends the script: fewer than 8 bits follow, and its a and b and these are all 0.
@@ -56,10 +56,7 @@ fn ends_script(script: &[u8], at: usize, left: usize) -> bool
     requires { (left ≡ bits_left script.now at) × (record_bits ≤ left) }
     ensures { result ≡ ends_at script.now at }
 {
-    if 8 <= left - RECORD_BITS {
-        return false;
-    }
-    run_of(script, at + 2, left - 2) == 0
+    left - RECORD_BITS < 8 && run_of(script, at + 2, left - 2) == 0
 }
 
 // What stands at position `at`.
@@ -68,29 +65,18 @@ fn item_at(script: &[u8], at: usize) -> Item
 {
     let left = bits_left(script, at);
     if left < RECORD_BITS {
-        return Item::Malformed;
+        return Err(Malformed);
     }
     let record = run_of(script, at, RECORD_BITS);
-    let kind = field(record, 16, 2);
     let a = field(record, 8, 8) as usize;
     let b = field(record, 0, 8) as usize;
-    if kind == 1 {
-        return Item::Add { a, b };
+    match field(record, 16, 2) {
+        1 => Ok(Some(Record::Add { a, b })),
+        2 => Ok(Some(Record::Remove { a, b })),
+        3 if b == 0 => Ok(Some(Record::ListFirst { k: a + 1 })),
+        0 if ends_script(script, at, left) => Ok(None),
+        _ => Err(Malformed),
     }
-    if kind == 2 {
-        return Item::Remove { a, b };
-    }
-    if kind == 3 {
-        let k = a + 1;
-        if b != 0 {
-            return Item::Malformed;
-        }
-        return Item::ListFirst { k };
-    }
-    if ends_script(script, at, left) {
-        return Item::End;
-    }
-    Item::Malformed
 }
 
 // The position past a record at `at`; the end and what is malformed keep it.
@@ -99,11 +85,9 @@ fn past(item: Item, at: usize) -> usize
     ensures { result ≡ past_item item at }
 {
     match item {
-        Item::Add { a: _, b: _ } => at + RECORD_BITS,
-        Item::Remove { a: _, b: _ } => at + RECORD_BITS,
-        Item::ListFirst { k: _ } => at + RECORD_BITS,
-        Item::End => at,
-        Item::Malformed => at,
+        Ok(Some(_)) => at + RECORD_BITS,
+        Ok(None) => at,
+        Err(Malformed) => at,
     }
 }
 

@@ -1,3 +1,4 @@
+pub mod AnswerLaws
 pub mod CrowdedLaws
 pub mod DegreeLaws
 pub mod LimitLaws

@@ -29,6 +29,11 @@ module _ (x y : ℕ) where
     | no z ↦ rw (ne_eqb x 0 z, ne_eqb y 0 (λ e. omega (arith, (h z).0))) (omega (arith, (h z).1))
   ]
 
+  -- the lesser where both refuse
+  pub earlier_some : (x ≡ 0 → ⊥) → (y ≡ 0 → ⊥) → earlier x y ≡ min x y
+  unfolding earlier
+  earlier_some d e = rw (ne_eqb x 0 d, ne_eqb y 0 e)
+
   -- none where neither refuses
   pub earlier_none : earlier x y ≡ 0 → (x ≡ 0) × (y ≡ 0)
   unfolding earlier

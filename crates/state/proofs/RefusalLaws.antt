@@ -142,7 +142,7 @@ module _ (cs : List Condition) where
 
 -- ---- lengths that are accepted
 
--- from what `count_refusal` answers
+-- from what `check_count` answers
 module _ (n : ℕ) {r : ℕ} (e : r ≡ refusal (node_count n ∷ [])) where
   pub counted_by : r ≡ 0 → (0 < n) × (n ≤ max_nodes)
   counted_by z = elim (ℕ_discrete n 0) [
@@ -176,7 +176,7 @@ sized n edges e = elim (ℕ_discrete n 0) [
   ]
 ]
 
--- from what `edge_refusal` answers
+-- from what `check_edges` answers
 pub sized_by : {n edges r : ℕ} → r ≡ refusal (edge_lengths n edges) → r ≡ 0 → Sized n edges
 sized_by {n} {edges} e z = sized n edges (sym e ∙ z)
 
@@ -193,7 +193,7 @@ pub record Fitted (n edges marks : ℕ) : Type 0 where
   pub sizes : Sized n edges
   pub marks_fit : marks ≡ mark_bytes n
 
--- from what `state_refusal` answers
+-- from what `check_state` answers
 pub fitted_by : {n edges marks r : ℕ} → r ≡ refusal (state_lengths n edges marks) → r ≡ 0 → Fitted n edges marks
 fitted_by {n} {edges} {marks} e z =
     let cs = buffer_length (mark_bytes n) marks ∷ [] in

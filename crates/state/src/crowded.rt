@@ -10,19 +10,14 @@ ghost use Rattle.state.specs.Refusal.{too_many, everyone};
 
 use ego::limits::LIMIT;
 use packed::degrees::{degrees_of, strip_of};
-use packed::runs::{MAX_RUN, least};
+use packed::runs::MAX_RUN;
 
 // Whether one of the first n degrees is too many.
 pub fn any_among(degrees: &[u16], n: usize) -> bool
     requires { n ≤ length degrees.now }
     ensures { result ≡ any_to (λ p. ltb limit (get_or degrees.now p 0)) n }
 {
-    for p in 0..n {
-        if LIMIT < degrees[p] as usize {
-            return true;
-        }
-    }
-    false
+    degrees[..n].iter().any(|&d| LIMIT < d as usize)
 }
 
 // Whether any node has too many edges.
@@ -40,7 +35,7 @@ fn strip_over(edges: &[u8], n: usize, k: usize) -> bool
     ensures { result ≡ any_to (λ j. ltb limit (degree (edge edges.now) n (max_run * k + j))) (min (n - max_run * k) max_run) }
 {
     let degrees = strip_of(edges, n, k);
-    any_among(&degrees[..], least(n - MAX_RUN * k, MAX_RUN))
+    any_among(&degrees[..], MAX_RUN.min(n - MAX_RUN * k))
 }
 
 // The same, strip by strip: no table of all degrees is held.
@@ -48,10 +43,5 @@ pub fn any_strip_over(edges: &[u8], n: usize) -> bool
     requires { Room n edges.now }
     ensures { result ≡ too_many (edge edges.now) n everyone }
 {
-    for k in 0..(n + MAX_RUN - 1) / MAX_RUN {
-        if strip_over(edges, n, k) {
-            return true;
-        }
-    }
-    false
+    (0..n.div_ceil(MAX_RUN)).any(|k| strip_over(edges, n, k))
 }

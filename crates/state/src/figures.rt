@@ -1,18 +1,9 @@
 // The figures of a state's nodes: cached scores, or bounds of them.
-ghost use Rattle.std.specs.Prelude.{◌≡◌, length, replicate};
+ghost use Rattle.std.specs.Prelude.{◌≡◌, length};
 ghost use Rattle.state.specs.Inside.Bounds.{Boundable, bounds_of};
 
 use ego::bound::bound_of;
 use packed::rows::{every_node, rows_within};
-
-// Sets every figure to 0.
-pub fn set_zero(figures: &mut [u64])
-    ensures { figures.new ≡ replicate (length figures.old) 0 }
-{
-    for p in 0..figures.len() {
-        figures[p] = 0;
-    }
-}
 
 // Sets every figure to its node's bound.
 pub fn set_bounds(edges: &[u8], figures: &mut [u64])
@@ -21,7 +12,7 @@ pub fn set_bounds(edges: &[u8], figures: &mut [u64])
 {
     let n = figures.len();
     let below = rows_within(edges, n, every_node());
-    for p in 0..n {
-        figures[p] = bound_of(edges, n, p, &below[..]);
+    for (p, figure) in figures.iter_mut().enumerate() {
+        *figure = bound_of(edges, n, p, &below[..]);
     }
 }

@@ -23,17 +23,7 @@ pub fn set_mark(marks: &mut [u8], p: usize, on: bool)
 pub fn set_exact(marks: &mut [u8])
     ensures { marks.new ≡ replicate (length marks.old) 0 }
 {
-    packed::bits::zero(marks);
-}
-
-// The byte whose first bits are set, `count` of them or all.
-fn first_bits(count: usize) -> u8
-    ensures { result ≡ pack_to (λ j. ltb (7 - j) count) 8 }
-{
-    if 8 <= count {
-        return 255;
-    }
-    !(255u8 >> count)
+    marks.fill(0);
 }
 
 // Marks n nodes stale; spare bits are 0.
@@ -41,7 +31,8 @@ pub fn set_stale(marks: &mut [u8], n: usize)
     requires { length marks.old ≡ mark_bytes n }
     ensures { marks.new ≡ all_stale n }
 {
-    for k in 0..marks.len() {
-        marks[k] = first_bits(n - 8 * k);
+    marks.fill(255);
+    if n % 8 != 0 {
+        marks[n / 8] = !(255u8 >> (n % 8));
     }
 }

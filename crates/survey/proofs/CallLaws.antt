@@ -1,8 +1,8 @@
 -- How the calls on a survey end. Assumes nothing.
 use mathlib.Core.Bool.{cond}
 use mathlib.Core.List.{List, [], ◌∷◌, ◌++◌}
-use mathlib.Core.Path.{ap, ap₂, sym, ◌∙◌, ◌≡◌}
-use Prim.Native.Nat.{◌%◌, suc, ℕ}
+use mathlib.Core.Path.{ap, ap₂, refl, subst, sym, ◌∙◌, ◌≡◌}
+use Prim.Native.Nat.{◌%◌, suc, zero, ℕ}
 use native.Mathlib.Decide.{ℕ_discrete}
 use native.Mathlib.Omega.{arith}
 use borrow.Author.Tests.{le-ltb, lt-ltb, ne_eqb}
@@ -13,19 +13,21 @@ use Rattle.calls.specs.Inside.Made.{made_call}
 use Rattle.calls.specs.Snapshot.{written}
 use Rattle.state.proofs.PairConditions.{pairs_cat, pairs_rest, passed_part, refused_part}
 use Rattle.state.proofs.RefusalLaws.{append_refused, count_refused, count_rest, counted_by, passed_length, refused_length}
+use Rattle.std.proofs.Common.{IsErrAnd, Ok, Option, Result}
+use Rattle.state.proofs.AnswerLaws.{found_refused, number_some}
+use Rattle.state.specs.declared.refusal.Refusal.{Refusal}
+use Rattle.state.specs.Answers.{At, Found, found, Nowhere, number, Refused}
 use Rattle.state.specs.Inside.Earlier.{earlier}
 use Rattle.state.specs.Refusal.{Condition, crowded_after, everyone, node_count, pair_conditions, part_record, refusal}
 use Rattle.state.specs.Sizes.{snapshot_bytes}
 use Rattle.survey.proofs.CountLaws.{last, last_counts, last_none, position_counts, position_none}
 use Rattle.survey.proofs.NumberLaws.{numbered, valid_by}
-use Rattle.survey.specs.declared.position.Latest.{Latest}
-use Rattle.survey.specs.declared.position.Latest.TheVariants.{At, NoRecord, Refused}
-use Rattle.survey.specs.Inside.Walk.{linked_no}
+use Rattle.survey.specs.Inside.Walk.{linked_no, position_at}
 use Rattle.survey.specs.Position.{answer_of, numbers_of, position_call, position_conditions, position_of}
 use Rattle.survey.specs.Sheet.{sheet_call, sheet_conditions, sheet_from}
 use Rattle.survey.specs.Survey.{linked_from, record_bytes, record_count, record_pairs}
 
--- ---- 14, from what `form_refusal` answers
+-- ---- 14, from what `check_form` answers
 
 module _ (survey : List ℕ) {form : ℕ} (f : form ≡ refusal (part_record record_bytes (length survey) ∷ [])) where
   form_refused : (form ≡ 0 → ⊥) → (cs : List Condition) → form ≡ refusal (part_record record_bytes (length survey) ∷ cs)
@@ -84,15 +86,20 @@ module _ (survey : List ℕ) (n threshold : ℕ) (buffer : List ℕ) where
 
 module _ (survey : List ℕ) (n a b : ℕ) where
   -- what the answer is, and its numbers
-  abbrev pub Answers : Latest → Type 0
+  abbrev pub Answers : Found ℕ → Type 0
   Answers r = (r ≡ position_call survey n a b) × (numbers_of r ≡ answer_of survey n a b)
 
-  answers_refused : {r : ℕ} → r ≡ refusal (position_conditions survey n a b) → (r ≡ 0 → ⊥) → Answers (Refused r)
+  refused : {r : ℕ} → r ≡ refusal (position_conditions survey n a b) → (r ≡ 0 → ⊥) → Answers (Refused r)
   unfolding position_call numbers_of answer_of
-  answers_refused {r} e d = (rw (← e, ne_eqb r 0 d), rw (← e, ne_eqb r 0 d))
+  refused {r} e d = (rw (← e, ne_eqb r 0 d), rw (← e, ne_eqb r 0 d))
+
+  -- a refusal that `?` hands on
+  answers_refused : (x : Result (Option ℕ) Refusal) (r : Refusal) → IsErrAnd x (λ e. e ≡ r) → number r ≡ refusal (position_conditions survey n a b)
+      → Answers (found x)
+  answers_refused x r h e = subst Answers (sym (found_refused x r h)) (refused e (number_some r))
 
   module _ (z : refusal (position_conditions survey n a b) ≡ 0) where
-    pub answers_none : last survey a b ≡ 0 → Answers NoRecord
+    pub answers_none : last survey a b ≡ 0 → Answers Nowhere
     unfolding position_call numbers_of answer_of
     answers_none e =
         let p : record_count survey ≡ position_of survey a b = position_none survey a b (last_none survey a b e) in
@@ -107,19 +114,28 @@ module _ (survey : List ℕ) (n a b : ℕ) where
         let within = lt-ltb i (record_count survey) c.inside in
         (rw (z, ← p, within), rw (z, ← p, within))
 
-  module _ {nodes : ℕ} (c : nodes ≡ refusal (node_count n ∷ [])) where
-    pub position_nodes : (nodes ≡ 0 → ⊥) → Answers (Refused nodes)
-    position_nodes d = answers_refused (count_refused n c d _) d
+    pub answers_found : {o : Option ℕ} → o ≡ position_at (last survey a b) → Answers (found (Ok o))
+    unfolding position_at
+    answers_found {o} e = by (last survey a b) refl
+      where
+        by : (x : ℕ) → last survey a b ≡ x → Answers (found (Ok o))
+        by zero f = rw (e, f) (answers_none f)
+        by (suc i) f = rw (e, f) (answers_at i f)
 
-    module _ (x : nodes ≡ 0) {form : ℕ} (f : form ≡ refusal (part_record record_bytes (length survey) ∷ [])) where
-      pub position_form : (form ≡ 0 → ⊥) → Answers (Refused form)
-      position_form d = answers_refused (form_refused survey f d _ ∙ sym (count_rest n c x _)) d
+  -- from what the checks answer
+  module _ (x : Result (Option ℕ) Refusal) (r : Refusal) (h : IsErrAnd x (λ e. e ≡ r)) where
+    pub position_nodes : number r ≡ refusal (node_count n ∷ []) → Answers (found x)
+    position_nodes c = answers_refused x r h (count_refused n c (number_some r) _)
 
-      module _ (y : form ≡ 0) {pairs records asked : ℕ} (p : pairs ≡ earlier records asked) (q : records ≡ refusal (pair_conditions n (record_pairs survey)))
-          (s : asked ≡ refusal (pair_conditions n ((a, b) ∷ []))) where
-        -- the records, and the pair asked about
-        pub position_asked : refusal (position_conditions survey n a b) ≡ pairs
-        position_asked = count_rest n c x _ ∙ form_rest survey f y _ ∙ pairs_cat n (record_pairs survey) ((a, b) ∷ []) ∙ sym (p ∙ ap₂ earlier q s)
+    pub position_form : 0 ≡ refusal (node_count n ∷ []) → number r ≡ refusal (part_record record_bytes (length survey) ∷ []) → Answers (found x)
+    position_form c f = answers_refused x r h (form_refused survey f (number_some r) _ ∙ sym (count_rest n c refl _))
 
-        pub position_pairs : (pairs ≡ 0 → ⊥) → Answers (Refused pairs)
-        position_pairs d = answers_refused (sym position_asked) d
+  -- the records, and the pair asked about
+  module _ (c : 0 ≡ refusal (node_count n ∷ [])) (f : 0 ≡ refusal (part_record record_bytes (length survey) ∷ [])) {records asked : ℕ}
+      (q : records ≡ refusal (pair_conditions n (record_pairs survey))) (s : asked ≡ refusal (pair_conditions n ((a, b) ∷ []))) where
+    pub position_asked : refusal (position_conditions survey n a b) ≡ earlier records asked
+    position_asked =
+        count_rest n c refl _ ∙ form_rest survey f refl _ ∙ pairs_cat n (record_pairs survey) ((a, b) ∷ []) ∙ sym (ap₂ earlier q s)
+
+    pub position_pairs : (x : Result (Option ℕ) Refusal) (r : Refusal) → IsErrAnd x (λ e. e ≡ r) → number r ≡ earlier records asked → Answers (found x)
+    position_pairs x r h e = answers_refused x r h (e ∙ sym position_asked)

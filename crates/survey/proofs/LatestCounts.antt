@@ -5,10 +5,10 @@ use mathlib.Core.Logic.{◌≢◌}
 use mathlib.Core.Path.{ap, refl, subst, sym, ◌∙◌, ◌≡◌}
 use Prim.Native.Nat.{suc, zero, ℕ}
 use borrow.Author.Tests.{ne_eqb}
+use Rattle.state.specs.Answers.{At, Nowhere, Refused}
 use Rattle.state.specs.Refusal.{refusal}
 use Rattle.survey.proofs.CallLaws.{answers_at, answers_none}
 use Rattle.survey.proofs.CountLaws.{counts_last, counts_one, last, last_counts, linked_by, linked_of, measured_counts}
-use Rattle.survey.specs.declared.position.Latest.TheVariants.{At, NoRecord, Refused}
 use Rattle.survey.specs.Latest.{Counts, LatestCounts, Measured}
 use Rattle.survey.specs.Position.{numbers_of, position_call, position_conditions}
 
@@ -24,7 +24,7 @@ at_same : {i j : ℕ} → At i ≡ At j → i ≡ j
 unfolding numbers_of
 at_same e = ap (λ c. (numbers_of c).position) e
 
-at_none : {i : ℕ} → At i ≡ NoRecord → ⊥
+at_none : {i : ℕ} → At i ≡ Nowhere → ⊥
 unfolding numbers_of
 at_none e = true≢false (ap (λ c. (numbers_of c).some) e)
 
@@ -40,13 +40,13 @@ module _ (survey : List ℕ) (n a b : ℕ) (z : refusal (position_conditions sur
   at_back : (i : ℕ) → Counts survey a b i → position_call survey n a b ≡ At i
   at_back i c = sym (answers_at survey n a b z i (counts_last survey a b i c)).0
 
-  none_forth : position_call survey n a b ≡ NoRecord → Measured survey a b → ⊥
+  none_forth : position_call survey n a b ≡ Nowhere → Measured survey a b → ⊥
   none_forth e m = let (i, c) = measured_counts survey a b m in at_none (sym (at_back i c) ∙ e)
 
-  none_back : (Measured survey a b → ⊥) → position_call survey n a b ≡ NoRecord
+  none_back : (Measured survey a b → ⊥) → position_call survey n a b ≡ Nowhere
   none_back d = by (last survey a b) refl
     where
-      by : (x : ℕ) → last survey a b ≡ x → position_call survey n a b ≡ NoRecord
+      by : (x : ℕ) → last survey a b ≡ x → position_call survey n a b ≡ Nowhere
       by zero f = sym (answers_none survey n a b z f).0
       by (suc j) f = absurd (d (counts_measured survey a b (j, last_counts survey a b j f)))
 

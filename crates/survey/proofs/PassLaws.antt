@@ -14,9 +14,10 @@ use lib.Seq.{get_or-set_other, get_or-set_same}
 use Rattle.arith.proofs.Tests.{and_all, and-false, and-true, test}
 use Rattle.packed.proofs.BitLaws.{clear_bytes_of, length-bytes_of, put_bytes_of}
 use Rattle.packed.proofs.PairLaws.{pair_lt}
-use Rattle.packed.proofs.WindowLaws.{Inside, place_before, place_in_lem, place_inside, place_past}
+use Rattle.packed.proofs.WindowLaws.{Inside, place_before, place_in_lem, place_inside, place_past, placed_none, placed_some}
+use Rattle.std.proofs.Common.{None, Option, Some}
 use Rattle.packed.specs.Bits.{bytes_of, with_bit}
-use Rattle.packed.specs.Inside.Windows.{place_in, window}
+use Rattle.packed.specs.Inside.Windows.{place_in, placed as found_at, window}
 use Rattle.packed.specs.Pairs.{max_nodes, pair_count}
 use Rattle.calls.proofs.MadeLaws.{most_pairs}
 use Rattle.state.specs.Inside.Earlier.{TwoNodes}
@@ -29,30 +30,31 @@ use Rattle.survey.specs.Inside.Walk.{decides, has_number, last_to, linked_no, nu
 
 -- ---- what a record does
 
-module _ (start : ℕ) (latest edges : List ℕ) (r : Measurement) (on : Bool) {p k : ℕ} (is : p ≡ number_of r) (at : k ≡ place_in start p) where
+module _ (start : ℕ) (latest edges : List ℕ) (r : Measurement) (on : Bool) {p : ℕ} (is : p ≡ number_of r) {o : Option ℕ} (at : o ≡ found_at start p) where
   -- the edges and the table after it
   abbrev pub Decided : List ℕ → List ℕ → Type 0
   Decided edges' latest' =
       (edges' ≡ cond (decides start latest r) (with_bit edges (number_of r) on) edges)
       × (latest' ≡ cond (decides start latest r) (set latest (place_in start (number_of r)) r.number) latest)
 
-  place_is : place_in start (number_of r) ≡ k
-  place_is = ap (place_in start) (sym is) ∙ sym at
-
   left_as : decides start latest r ≡ false → Decided edges latest
   left_as e = rw e (refl, refl)
 
-  pub decided_outside : k ≡ window → Decided edges latest
+  pub decided_outside : o ≡ None → Decided edges latest
   unfolding decides
-  decided_outside e = left_as (rw (place_is, e))
+  decided_outside e = left_as (rw (← is, placed_none start p at e))
 
-  pub decided_lower : r.number < get_or latest k 0 → Decided edges latest
-  unfolding decides
-  decided_lower h = left_as (rw (place_is, lt-leb (get_or latest k 0) r.number h) (and-false (ltb k window)))
+  module _ {k : ℕ} (e : o ≡ Some k) where
+    place_is : place_in start (number_of r) ≡ k
+    place_is = ap (place_in start) (sym is) ∙ (placed_some start p at e).3
 
-  pub decided : k < window → get_or latest k 0 ≤ r.number → Decided (with_bit edges p on) (set latest k r.number)
-  unfolding decides
-  decided h l = rw (place_is, lt-ltb k window h, le-leb (get_or latest k 0) r.number l, is) (refl, refl)
+    pub decided_lower : r.number < get_or latest k 0 → Decided edges latest
+    unfolding decides
+    decided_lower h = left_as (rw (place_is, lt-leb (get_or latest k 0) r.number h) (and-false (ltb k window)))
+
+    pub decided : get_or latest k 0 ≤ r.number → Decided (with_bit edges p on) (set latest k r.number)
+    unfolding decides
+    decided l = rw (place_is, lt-ltb k window (placed_some start p at e).2, le-leb (get_or latest k 0) r.number l, is) (refl, refl)
 
 -- ---- which records a pair has seen
 

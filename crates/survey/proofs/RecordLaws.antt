@@ -12,7 +12,8 @@ use Rattle.state.specs.Inside.Earlier.{earlier}
 use Rattle.state.specs.Refusal.{pair_conditions, refusal}
 use Rattle.survey.specs.Survey.{is_for, measurement_at, pairs_to}
 use Rattle.survey.specs.declared.records.Measurement.{Measurement}
-use Rattle.survey.specs.Inside.Walk.{last_to, number_at}
+use Rattle.std.proofs.Common.{None, Option, Some}
+use Rattle.survey.specs.Inside.Walk.{last_to, number_at, position_at}
 
 -- ---- the refusals
 
@@ -26,30 +27,30 @@ module _ (survey : List ℕ) (n : ℕ) where
   unfolding pairs_to tabulate
   pairs_next i = rw (add-one i) (pairs_cat n (pairs_to survey i) (((measurement_at survey i).a, (measurement_at survey i).b) ∷ []))
 
--- ---- the walk's two numbers after k records: the record that counts so far, and its survey number
+-- ---- what the walk has after k records: the position of the record that counts so far, and its survey number
 
-pub record Walked (survey : List ℕ) (passes : ℕ → Bool) (k last highest : ℕ) : Type 0 where
-  pub at : last ≡ last_to survey passes k
-  pub number : highest ≡ number_at survey last
+pub record Walked (survey : List ℕ) (passes : ℕ → Bool) (k : ℕ) (last : Option ℕ) (highest : ℕ) : Type 0 where
+  pub at : last ≡ position_at (last_to survey passes k)
+  pub number : highest ≡ number_at survey (last_to survey passes k)
 
-pub walked_none : (survey : List ℕ) (passes : ℕ → Bool) → Walked survey passes 0 0 0
-unfolding last_to number_at
+pub walked_none : (survey : List ℕ) (passes : ℕ → Bool) → Walked survey passes 0 None 0
+unfolding last_to number_at position_at
 walked_none survey passes = record { at = refl; number = refl }
 
 -- one record more, from what `is_latest` answers
-module _ (survey : List ℕ) (a b i : ℕ) {r : Measurement} {last highest : ℕ} {t : Bool} (w : Walked survey (is_for survey a b) i last highest)
+module _ (survey : List ℕ) (a b i : ℕ) {r : Measurement} {last : Option ℕ} {highest : ℕ} {t : Bool} (w : Walked survey (is_for survey a b) i last highest)
     (is : r ≡ measurement_at survey i) (tested : t ≡ same_pair r.a r.b a b && leb highest r.number) where
   taken : {u : Bool} → t ≡ u
       → is_for survey a b i && leb (number_at survey (last_to survey (is_for survey a b) i)) (measurement_at survey i).number ≡ u
   unfolding is_for
   taken e =
-      ap (λ x. is_for survey a b i && leb x (measurement_at survey i).number) (sym (w.number ∙ ap (number_at survey) w.at))
+      ap (λ x. is_for survey a b i && leb x (measurement_at survey i).number) (sym w.number)
       ∙ ap (λ r. same_pair r.a r.b a b && leb highest r.number) (sym is) ∙ sym tested ∙ e
 
-  pub walked_taken : {last' highest' : ℕ} → t ≡ true → last' ≡ i + 1 → highest' ≡ r.number → Walked survey (is_for survey a b) (i + 1) last' highest'
-  unfolding last_to number_at
-  walked_taken e p q = rw (p, q, is, add-one i) (record { at = rw (taken e); number = refl })
+  pub walked_taken : {last' : Option ℕ} {highest' : ℕ} → t ≡ true → last' ≡ Some i → highest' ≡ r.number → Walked survey (is_for survey a b) (i + 1) last' highest'
+  unfolding last_to number_at position_at
+  walked_taken e p q = rw (p, q, is, add-one i) (record { at = rw (taken e); number = rw (taken e) })
 
-  pub walked_left : {last' highest' : ℕ} → t ≡ false → last' ≡ last → highest' ≡ highest → Walked survey (is_for survey a b) (i + 1) last' highest'
+  pub walked_left : {last' : Option ℕ} {highest' : ℕ} → t ≡ false → last' ≡ last → highest' ≡ highest → Walked survey (is_for survey a b) (i + 1) last' highest'
   unfolding last_to
-  walked_left e p q = rw (p, q, add-one i) (record { at = rw (taken e) w.at; number = w.number })
+  walked_left e p q = rw (p, q, add-one i) (record { at = rw (taken e) w.at; number = rw (taken e) w.number })

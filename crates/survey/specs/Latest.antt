@@ -1,9 +1,9 @@
 -- What the record that counts is, as a relation between a position and the whole file, and what the two calls say of it. Assumes nothing.
 use Rattle.std.specs.Prelude.{true, false, List, ◌↔◌, ◌≢◌, ◌≡◌, ℕ, ◌<◌, ◌≤◌}
+use Rattle.state.specs.Answers.{At, Nowhere, Refused}
 use Rattle.state.specs.Refusal.{refusal}
 use Rattle.survey.specs.Survey.{is_for, linked_from, measurement_at, record_count, supersedes}
 use Rattle.survey.specs.Position.{position_call, position_conditions}
-use Rattle.survey.specs.declared.position.Latest.TheVariants.{At, NoRecord, Refused}
 
 -- record i of the file counts for the pair: no other record of the pair supersedes it
 pub record Counts (survey : List ℕ) (a b i : ℕ) : Type 0 where
@@ -29,7 +29,7 @@ pub record LatestCounts : Type 0 where
       → (position_call survey n a b ≡ At i) ↔ Counts survey a b i
   -- none exactly if the pair has no record,
   pub none : (survey : List ℕ) (n a b : ℕ) → refusal (position_conditions survey n a b) ≡ 0
-      → (position_call survey n a b ≡ NoRecord) ↔ (Measured survey a b → ⊥)
+      → (position_call survey n a b ≡ Nowhere) ↔ (Measured survey a b → ⊥)
   -- and otherwise the call is refused.
   pub refused : (survey : List ℕ) (n a b : ℕ) → refusal (position_conditions survey n a b) ≢ 0
       → position_call survey n a b ≡ Refused (refusal (position_conditions survey n a b))

@@ -1,10 +1,10 @@
 // The records of a survey, and the refusals of those that are not sound.
 ghost use Rattle.std.specs.Prelude.{◌≡◌, [], ◌∷◌, ◌<◌, length};
+ghost use Rattle.state.specs.Answers.{refusal_of};
 ghost use Rattle.state.specs.Refusal.{pair_conditions, part_record, refusal};
 ghost use Rattle.survey.specs.Survey.{measurement_at, record_bytes, record_count, record_pairs};
 
-use packed::runs::{bytes_at, field};
-use state::refusal::{PART_RECORD, earlier, pair_refusal};
+use state::refusal::{Refusal, check_pair, earlier};
 
 // The bytes of a record.
 const RECORD_BYTES: usize = 5;
@@ -19,13 +19,13 @@ pub struct Measurement {
 }
 
 // Refusal 14: the survey is not a whole number of records.
-pub(crate) fn form_refusal(survey: &[u8]) -> u64
-    ensures { result ≡ refusal (part_record record_bytes (length survey.now) ∷ []) }
+pub(crate) fn check_form(survey: &[u8]) -> Result<(), Refusal>
+    ensures { refusal_of result ≡ refusal (part_record record_bytes (length survey.now) ∷ []) }
 {
     if survey.len() % RECORD_BYTES != 0 {
-        return PART_RECORD;
+        return Err(Refusal::PartRecord);
     }
-    0
+    Ok(())
 }
 
 // The number of records.
@@ -40,23 +40,23 @@ pub(crate) fn measurement_at(survey: &[u8], i: usize) -> Measurement
     requires { i < record_count survey.now }
     ensures { result ≡ measurement_at survey.now i }
 {
-    let record = bytes_at(survey, RECORD_BYTES * i, RECORD_BYTES);
+    let at = RECORD_BYTES * i;
     Measurement {
-        a: field(record, 32, 8) as usize,
-        b: field(record, 24, 8) as usize,
-        number: field(record, 8, 16) as u16,
-        strength: field(record, 0, 8) as u8,
+        a: usize::from(survey[at]),
+        b: usize::from(survey[at + 1]),
+        number: u16::from_be_bytes([survey[at + 2], survey[at + 3]]),
+        strength: survey[at + 4],
     }
 }
 
-// Refusals 4 and 5, each over all records.
-pub(crate) fn record_refusal(survey: &[u8], n: usize) -> u64
-    ensures { result ≡ refusal (pair_conditions n (record_pairs survey.now)) }
+// Refusals 4 and 5, each over all records. The records of a schedule have other fields and one refusal more: the two loops share `earlier` alone.
+pub(crate) fn check_records(survey: &[u8], n: usize) -> Result<(), Refusal>
+    ensures { refusal_of result ≡ refusal (pair_conditions n (record_pairs survey.now)) }
 {
-    let mut first: u64 = 0;
+    let mut first = Ok(());
     for i in 0..count(survey) {
         let r = measurement_at(survey, i);
-        first = earlier(first, pair_refusal(n, r.a, r.b));
+        first = earlier(first, check_pair(n, r.a, r.b));
     }
     first
 }

@@ -9,15 +9,15 @@ use native.Mathlib.Nat.{add-suc, add-zero, le_refl}
 use native.Mathlib.Numerals.{add-one}
 use native.Mathlib.Omega.{arith}
 use borrow.Author.Tests.{eq-eqb, ne_eqb}
+use Rattle.std.specs.Prelude.{Option}
 use lib.ListN.{get_or, length, length-set, set}
 use lib.Seq.{get_or-set_other, get_or-set_same}
 use Rattle.arith.proofs.Tests.{test}
-use Rattle.arith.specs.Rank.{before}
 use Rattle.topk.proofs.NextLaws.{figure_of, Free, next_of_node, next_of_none, Taken}
 use Rattle.topk.proofs.Order.{ahead_ahead, behind_behind}
 use Rattle.topk.specs.Entries.{ranks_before}
 use Rattle.topk.specs.Steps.{at, best_below, better, Next, nothing, Progress}
-use Rattle.topk.specs.Inside.Next.{best_from, best_head, block_nodes, blocks_for, block_size, first_of, head_of, HeadAt, HeadsAre, HeadsBut, looking, Names, next, next_of}
+use Rattle.topk.specs.Inside.Next.{best_from, best_head, block_nodes, blocks_for, block_size, first_of, Found, head_of, HeadAt, HeadsAre, HeadsBut, looking, Names, next, next_of, node_of}
 
 -- ---- of two, the one that ranks first
 
@@ -61,12 +61,12 @@ module _ (F : List ℕ) (a b : ℕ) where
   first_is_none h = rw (next_of_none {n = length F} h)
 
   module _ (h : a < length F) (l : b < length F) where
-    pub second_first : before (get_or F b 0) b (get_or F a 0) a ≡ true → named b ≡ best
-    unfolding first_of ranks_before
+    pub second_first : ranks_before (figure_of F b) (figure_of F a) ≡ true → named b ≡ best
+    unfolding first_of
     second_first t = rw (next_of_node h, next_of_node l, t)
 
-    pub second_after : before (get_or F b 0) b (get_or F a 0) a ≡ false → named a ≡ best
-    unfolding first_of ranks_before
+    pub second_after : ranks_before (figure_of F b) (figure_of F a) ≡ false → named a ≡ best
+    unfolding first_of
     second_after t = rw (next_of_node h, next_of_node l, t)
 
 module _ (s : Progress) (i : ℕ) where
@@ -154,8 +154,8 @@ module _ (F T H : List ℕ) (heads : HeadsAre (looking F T) H) where
   unfolding next
   heads_next = let e : min (block_size * blocks_for n) n ≡ n = omega arith in heads_below (blocks_for n) (le_refl (blocks_for n)) ∙ ap (best_below s) e
 
-  pub next_named : {p : ℕ} → Names n (best_head F H (blocks_for n)) p → Names n (next s) p
-  next_named h = record { within = h.within; named = h.named ∙ heads_next }
+  pub next_named : {p : Option ℕ} → Found n (best_head F H (blocks_for n)) p → node_of p ≡ next s
+  next_named h = h.named ∙ heads_next
 
 -- ---- what the best of some nodes depends on
 

@@ -11,7 +11,12 @@ use Rattle.arith.proofs.Tests.{or_false_both}
 use Rattle.calls.proofs.AcceptLaws.{lengths_fit, lengths_rest, passes}
 use Rattle.ego.specs.Graph.{degree, Graph}
 use Rattle.ego.specs.Limits.{limit}
+use Rattle.std.proofs.Common.{Result, Ok, Err, IsErrAnd}
+use Rattle.state.proofs.AnswerLaws.{number_some}
 use Rattle.state.proofs.LimitLaws.{few_each}
+use Rattle.state.specs.Answers as answer
+use Rattle.state.specs.Answers.{number, value_of}
+use Rattle.state.specs.declared.refusal.Refusal.{Refusal}
 use Rattle.state.proofs.RefusalLaws.{sized_room}
 use Rattle.state.specs.Outcome.{lengths, state_lengths}
 use Rattle.state.specs.Sizes.{scratch_bytes}
@@ -79,17 +84,22 @@ module _ (s : State) (C : List ℕ) where
   abbrev pub coded_refusal : List ℕ → ℕ
   coded_refusal E = refusal (state_lengths n (length s.edges) (length s.marks) ++ list_conditions n (graph s) (wanted E) (length C))
 
-  module _ (E : List ℕ) {r : ℕ} (e : r ≡ coded_refusal E) where
-    is_refusal : r ≡ refusal_of (wanted E)
+  module _ (E : List ℕ) where
+    coded : coded_refusal E ≡ refusal_of (wanted E)
     unfolding lengths
-    is_refusal = e
+    coded = refl
 
-    pub list_refused : (r ≡ 0 → ⊥) → listing r 0 s E C ≡ list_call s E C
-    list_refused d = ap (λ (m : ℕ). listing m 0 s E C) is_refusal ∙ sym (list_call_refused E (wanted E) refl (λ z. d (is_refusal ∙ z)))
+    -- a refusal that `?` hands on is the call's
+    pub list_refused : (x : Result ℕ Refusal) (r : Refusal) → IsErrAnd x (λ e. e ≡ r) → number r ≡ coded_refusal E
+        → listing (answer.refusal_of x) (value_of x) s E C ≡ list_call s E C
+    list_refused (Ok v) r h e = absurd h
+    list_refused (Err q) r h e =
+        let is : number q ≡ refusal_of (wanted E) = ap number h ∙ e ∙ coded in
+        ap (λ (m : ℕ). listing m 0 s E C) is ∙ sym (list_call_refused E (wanted E) refl (λ z. number_some q (is ∙ z)))
 
-    module _ (z : r ≡ 0) where
+    module _ (z : 0 ≡ coded_refusal E) where
       taken : refusal_of (wanted E) ≡ 0
-      taken = sym is_refusal ∙ z
+      taken = sym (z ∙ coded)
 
       pub list_fits : (scratch_bytes n ≤ length C) × ListFits n s.edges s.marks E (wanted E)
       list_fits =

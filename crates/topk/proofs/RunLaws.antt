@@ -12,17 +12,17 @@ use Rattle.state.specs.State.{graph, size, State}
 use Rattle.topk.proofs.HoldsLaws.{holds_next, progress_is}
 use Rattle.topk.proofs.OrderedLaws.{steps_ordered}
 use Rattle.topk.proofs.TakenLaws.{taken_none}
-use Rattle.topk.proofs.TurnLaws.{counts, steps_still, still}
+use Rattle.topk.proofs.TurnLaws.{counts, steps_still}
 use Rattle.topk.specs.Entries.{entries_of}
 use Rattle.topk.specs.List.{list_of}
 use Rattle.topk.specs.Steps.{all_steps, at_start, Progress, step, steps}
 use Rattle.topk.specs.Inside.Layout.{Ordered}
 use Rattle.topk.specs.Inside.Next.{HeadsAre, looking_in, stopped, taken_of}
-use Rattle.topk.specs.Inside.Turns.{Holds, Leaves, progress_of, truth_of, Turned}
+use Rattle.topk.specs.Inside.Turns.{Done, Gone, Holds, Leaves, progress_of, truth_of}
 use Rattle.topk.specs.declared.turns.Turn.{Turn}
 
 -- what is left of a list that the buffers hold
-holds_leaves : {s : Progress} {F M S E₀ E H : List ℕ} {m r : ℕ} → Holds s F M S E₀ E H m r → Leaves s F M E₀ E r
+holds_leaves : {s : Progress} {F M S E₀ E : List ℕ} {t : Turn} → Holds s F M S E₀ E t → Leaves s F M E₀ E t.recomputed
 holds_leaves h = record { figures_are = h.figures_are; marks_are = h.marks_are; entries_are = h.entries_are; recomputed_is = h.recomputed_is }
 
 module _ (s : State) (k : ℕ) where
@@ -36,7 +36,8 @@ module _ (s : State) (k : ℕ) where
   abbrev pub after_steps : ℕ → Progress
   after_steps i = steps T k i (at_start F₀ s.marks)
 
-  pub run_starts : {S E₀ H : List ℕ} → S ≡ replicate (scratch_bytes (size s)) 0 → HeadsAre (looking_in F₀ S) H → Holds (after_steps 0) F₀ s.marks S E₀ E₀ H 0 0
+  pub run_starts : {S E₀ : List ℕ} {H : List ℕ} → S ≡ replicate (scratch_bytes (size s)) 0 → HeadsAre (looking_in F₀ S) H
+      → Holds (after_steps 0) F₀ s.marks S E₀ E₀ (record { kept = 0; recomputed = 0; heads = H })
   unfolding steps
   run_starts e heads = record {
     figures_are = refl;
@@ -48,28 +49,33 @@ module _ (s : State) (k : ℕ) where
     recomputed_is = refl;
   }
 
-  module _ {i : ℕ} (l : i ≤ size s) {F M S E₀ E H : List ℕ} {m r : ℕ} (h : Holds (after_steps i) F M S E₀ E H m r) where
-    pub run_ends : size s ≤ i → Leaves (list_of s k) F M E₀ E r
+  module _ {i : ℕ} (l : i ≤ size s) {F M S E₀ E : List ℕ} {t : Turn} (h : Holds (after_steps i) F M S E₀ E t) where
+    pub run_ends : size s ≤ i → Leaves (list_of s k) F M E₀ E t.recomputed
     unfolding all_steps
-    run_ends g = holds_leaves (subst (λ (n : ℕ). Holds (after_steps n) F M S E₀ E H m r) (le_antisymm l g) h)
+    run_ends g = holds_leaves (subst (λ (n : ℕ). Holds (after_steps n) F M S E₀ E t) (le_antisymm l g) h)
 
-    pub run_ordered : Ordered (entries_of m E)
-    run_ordered = subst (λ (x : Progress). Ordered x.kept) (sym (progress_is (after_steps i) F M S E₀ E H m r h)) (steps_ordered T k i F₀ s.marks)
+    pub run_ordered : Ordered (entries_of t.kept E)
+    run_ordered = subst (λ (x : Progress). Ordered x.kept) (sym (progress_is (after_steps i) F M S E₀ E t h)) (steps_ordered T k i F₀ s.marks)
 
     -- a turn more
-    module _ (n : length F ≡ size s) {F' M' S' E' : List ℕ} {t : Turn} (u : Turned (truth_of s.edges F) k (progress_of F M S E m r) t F' M' S' E E') where
-      on : Holds (step T k (after_steps i)) F' M' S' E₀ E' t.heads t.kept t.recomputed
-      on =
-          holds_next T k (after_steps i) F M S E₀ E H m r F' M' S' E' t.heads t.kept t.recomputed (counts T k F₀ s.marks i).0 h
-          (subst (λ (x : ℕ). Holds (step (score (graph s) x) k (progress_of F M S E m r)) F' M' S' E E' t.heads t.kept t.recomputed) n u.holds)
-
-      pub run_goes : Holds (after_steps (i + 1)) F' M' S' E₀ E' t.heads t.kept t.recomputed
+    module _ (n : length F ≡ size s) {F' M' S' E' : List ℕ} where
+      pub run_goes : {t' : Turn} → Gone (truth_of s.edges F) k (progress_of F M S E t) t' F' M' S' E E' → Holds (after_steps (i + 1)) F' M' S' E₀ E' t'
       unfolding steps
-      run_goes = rw add-one on
+      run_goes {t'} u =
+          rw add-one
+          (holds_next T k (after_steps i) F M S E₀ E t F' M' S' E' t' (counts T k F₀ s.marks i).0 h
+          (subst (λ (x : ℕ). Holds (step (score (graph s) x) k (progress_of F M S E t)) F' M' S' E E' t') n u.holds))
 
-      pub run_stops : t.stopped ≡ true → Leaves (list_of s k) F' M' E₀ E' t.recomputed
+      -- the list is done: what the buffers hold is what all steps come to
+      pub run_stops : Done k (progress_of F M S E t) F' M' S' E E' → Leaves (list_of s k) F' M' E₀ E' t.recomputed
       unfolding all_steps
-      run_stops e =
-          let d : stopped k (after_steps i) ≡ true = ap (stopped k) (sym (progress_is (after_steps i) F M S E₀ E H m r h)) ∙ sym u.stops ∙ e in
-          let q : step T k (after_steps i) ≡ after_steps (size s) = still T k (after_steps i) d ∙ sym (steps_still T k (at_start F₀ s.marks) i (size s) l d) in
-          holds_leaves (subst (λ (x : Progress). Holds x F' M' S' E₀ E' t.heads t.kept t.recomputed) q on)
+      run_stops u =
+          let d : stopped k (after_steps i) ≡ true = ap (stopped k) (sym (progress_is (after_steps i) F M S E₀ E t h)) ∙ u.stops in
+          let q = sym (steps_still T k (at_start F₀ s.marks) i (size s) l d) in
+          let x = holds_leaves (subst (λ (x : Progress). Holds x F M S E₀ E t) q h) in
+          record {
+            figures_are = u.figures_are ∙ x.figures_are;
+            marks_are = u.marks_are ∙ x.marks_are;
+            entries_are = u.entries_are ∙ x.entries_are;
+            recomputed_is = x.recomputed_is;
+          }

@@ -5,45 +5,24 @@ use Prim.Native.Nat.{◌*◌, ◌+◌, ◌-◌, ◌<◌, min, suc, ℕ, ◌≤�
 use native.Mathlib.Decide.{dec_le}
 use native.Mathlib.Numerals.{add-one}
 use native.Mathlib.Omega.{arith}
-use lib.ListN.{drop, get_or, length, length-append, length-take, get_or-append, set, take, take-append-drop}
-use lib.Seq.{drop-append-le, drop_at, drop-cons, get_or-take, length-take-le, set_at, sets-eq, take_all, take-append-add, take-append-le, take_at, take-length, take-suc, take-take}
+use lib.ListN.{drop, length, length-append, set, take, take-append-drop}
+use Rattle.std.specs.List.{copy_within}
+use lib.Seq.{paste, drop-append-le, drop_at, length-take-le, sets-eq, take_all, take-append-add, take-append-le, take_at, take-length, take-take}
 use Rattle.topk.proofs.LayoutLaws.{entries_flat, flat_append, flat-drop, flat-take, length-entries_of, length_flat}
 use Rattle.topk.proofs.PlaceLaws.{keep_put, length_put_in, place_le, put_in}
 use Rattle.topk.proofs.Sort.{length_keep}
 use Rattle.topk.specs.Entries.{Entry, flat, keep, entries_of}
-use Rattle.topk.specs.Inside.Layout.{entry_put_in, Kept, mixed, moved_on, place, spliced}
+use Rattle.topk.specs.Inside.Layout.{entry_put_in, Kept, mixed, place, spliced}
 
--- numbers moved on by two, from the back
+-- numbers moved on by two
 
-pub moved_none : (E : List ℕ) (t : ℕ) → moved_on E t t ≡ E
-unfolding moved_on
-moved_none E t = let e : t - t ≡ 0 = omega arith in rw e (take-append-drop (t + 2) E)
-
-moved_more : (E : List ℕ) (j t : ℕ) → j < t → t + 2 ≤ length E → set (moved_on E (j + 1) t) (j + 2) (get_or (moved_on E (j + 1) t) j 0) ≡ moved_on E j t
-unfolding moved_on
-moved_more E j t h l =
-    let lj : j < length E = omega arith in
-    let lh : j + 2 < length E = omega arith in
-    let R = take (t - suc j) (drop (suc j) E) ++ drop (t + 2) E in
-    let a : j + 1 + 2 ≡ suc (j + 2) = omega arith in
-    let b : t - j ≡ suc (t - suc j) = omega arith in
-    let c : j < length (take (suc (j + 2)) E) = rw length-take (omega arith) in
-    let r : get_or (take (suc (j + 2)) E ++ R) j 0 ≡ get_or E j 0 =
-    get_or-append (take (suc (j + 2)) E) R 0 j c ∙ get_or-take (suc (j + 2)) E j 0 (omega arith) in
-    rw (a, add-one j, r, take-suc E (j + 2) 0, append_assoc, b, drop-cons E j 0)
-    (set_at (take (j + 2) E) (get_or E (j + 2) 0) R (get_or E j 0) (j + 2) (length-take-le (j + 2) E (omega arith)))
-
--- a turn of the loop that moves them, of which the number at j is the next
-pub moved_turn : (E : List ℕ) {N : List ℕ} (j t : ℕ) → 0 < j → j ≤ t → t + 2 ≤ length E → N ≡ moved_on E j t
-    → set N (j - 1 + 2) (get_or N (j - 1) 0) ≡ moved_on E (j - 1) t
-moved_turn E j t h l r e =
-    let i : j ≡ j - 1 + 1 = omega arith in
-    rw (e ∙ ap (λ (m : ℕ). moved_on E m t) i) (moved_more E (j - 1) t (omega arith) r)
+moved : (E : List ℕ) (s t : ℕ) → s ≤ t → paste E (s + 2) (drop s E) (t - s) ≡ take (s + 2) E ++ (take (t - s) (drop s E) ++ drop (t + 2) E)
+moved E s t h = let e : s + 2 + (t - s) ≡ t + 2 = omega arith in rw (e, append_assoc)
 
 module _ (E : List ℕ) (s p f : ℕ) where
   -- a node and its figure put where numbers were moved on from
-  moved_put : (t : ℕ) → s ≤ t → t + 2 ≤ length E → set (set (moved_on E s t) s p) (s + 1) f ≡ mixed (spliced E s p f) E (t + 2)
-  unfolding moved_on spliced
+  moved_put : (t : ℕ) → s ≤ t → t + 2 ≤ length E → set (set (paste E (s + 2) (drop s E) (t - s)) s p) (s + 1) f ≡ mixed (spliced E s p f) E (t + 2)
+  unfolding spliced
   moved_put t h l =
       let R = take (t - s) (drop s E) ++ drop (t + 2) E in
       let M = take (s + 2) E ++ R in
@@ -52,7 +31,7 @@ module _ (E : List ℕ) (s p f : ℕ) where
       let front : take s M ≡ take s E = take-append-le s (take (s + 2) E) R (omega arith) ∙ take-take s (s + 2) E (omega arith) in
       let back : drop (s + 2) M ≡ R = drop_at (take (s + 2) E) R (s + 2) w in
       let q : t + 2 ≡ length (take s E) + suc (suc (t - s)) = omega (arith, length-take-le s E (omega arith)) in
-      rw (add-one s)
+      rw (moved E s t h, add-one s)
       (sets-eq (p ∷ f ∷ []) M s n
       ∙ rw (front, back, append_assoc)
       (sym (ap (λ z. z ++ drop (t + 2) E) (ap (λ m. take m (spliced E s p f)) q ∙ take-append-add (take s E) (p ∷ f ∷ drop s E) (suc (suc (t - s))))
@@ -63,16 +42,19 @@ module _ (E : List ℕ) (s p f : ℕ) where
   spliced_before h = rw (take_at (take s E) (p ∷ f ∷ drop s E) s (length-take-le s E h)) (take-append-drop s E)
 
 -- an entry put in at a place, of r entries then
-module _ (E : List ℕ) (a p f r : ℕ) where
+module _ (E : List ℕ) (a : ℕ) (e : Entry) (r : ℕ) where
   -- where the entries from there on were moved on
-  pub put_among : a < r → 2 * r ≤ length E → set (set (moved_on E (2 * a) (2 * r - 2)) (2 * a) p) (2 * a + 1) f ≡ entry_put_in E a p f r
+  pub put_among : a < r → 2 * r ≤ length E
+      → set (set (copy_within E (2 * a) (2 * r - 2) (2 * a + 2)) (2 * a) e.node) (2 * a + 1) e.figure ≡ entry_put_in E a e r
   put_among h l =
-      let e : 2 * r - 2 + 2 ≡ 2 * r = omega arith in
-      moved_put E (2 * a) p f (2 * r - 2) (omega arith) (omega arith) ∙ ap (mixed (spliced E (2 * a) p f) E) e
+      let t : 2 * r - 2 + 2 ≡ 2 * r = omega arith in
+      moved_put E (2 * a) e.node e.figure (2 * r - 2) (omega arith) (omega arith) ∙ ap (mixed (spliced E (2 * a) e.node e.figure) E) t
 
   -- past the last nothing changes
-  pub put_past : a ≡ r → 2 * r ≤ length E → E ≡ entry_put_in E a p f r
-  put_past e l = let h : 2 * a ≤ length E = omega arith in sym (spliced_before E (2 * a) p f h) ∙ ap (λ (m : ℕ). entry_put_in E a p f m) e
+  pub put_past : a ≡ r → 2 * r ≤ length E → E ≡ entry_put_in E a e r
+  put_past q l =
+      let h : 2 * a ≤ length E = omega arith in
+      sym (spliced_before E (2 * a) e.node e.figure h) ∙ ap (λ (m : ℕ). entry_put_in E a e m) q
 
 take_min : (k : ℕ) (xs : List Entry) → take (min (length xs) k) xs ≡ take k xs
 take_min k xs = elim (dec_le k (length xs)) [
@@ -99,7 +81,7 @@ module _ (m : ℕ) (E : List ℕ) (e : Entry) (room : 2 * m ≤ length E) where
       rw (t, d, flat_append (take a xs) (e ∷ drop a xs), append_assoc)
 
   pub kept_law : (k r : ℕ) (E' : List ℕ) → r ≡ min (m + 1) k
-      → E' ≡ entry_put_in E (place e xs) e.node e.figure r → Kept (keep k e xs) E E' r
+      → E' ≡ entry_put_in E (place e xs) e r → Kept (keep k e xs) E E' r
   kept_law k r E' hr hE =
       let n : length (put_in e xs) ≡ m + 1 = length_put_in e xs ∙ rw length-entries_of in
       let c : r ≡ length (keep k e xs) = hr ∙ rw (length_keep k e xs, length-entries_of) in

@@ -4,6 +4,5 @@
 pub mod entries;
 pub mod list;
 pub mod next;
-pub mod rank;
 pub mod turns;
 pub mod worth;

@@ -2,21 +2,32 @@
 // do not change while the list runs, so that only the head of a block of which a node was taken is found anew.
 ghost use Rattle.std.specs.Prelude.{◌≡◌, ℕ, ◌/◌, ◌<◌, ◌≤◌, get_or, length};
 ghost use Rattle.packed.specs.Pairs.{max_nodes};
+ghost use Rattle.topk.specs.Entries.{entry};
 ghost use Rattle.topk.specs.Steps.{better};
-ghost use Rattle.topk.specs.Inside.Next.{best_head, blocks_for, block_size, first_of, head_of, HeadsAre, HeadsBut, Lookable, looking_in, Names, next_of};
+ghost use Rattle.topk.specs.Inside.Next.{best_head, blocks_for, block_size, first_of, head_of, HeadsAre, HeadsBut, Lookable, Found, looking_in, Names, next_of};
 
-use crate::rank::ranks_before;
+use crate::entries::Entry;
 use packed::bits::get;
 use packed::edges::MAX_NODES;
-use packed::runs::least;
 
 // The nodes of a block, and the most blocks that there are.
 pub const BLOCK: usize = 16;
 
 pub const BLOCKS: usize = MAX_NODES / BLOCK;
 
-// The head of each block. The number of nodes stands for none, here and below.
+// The head of each block. The number of nodes stands for none, here and below: with an Option a list takes a tenth longer.
 pub type Heads = [u16; BLOCKS];
+
+// Node p with its figure.
+pub(crate) fn stored(figures: &[u64], p: usize) -> Entry
+    requires { p < length figures.now }
+    ensures { result ≡ entry p (get_or figures.now p 0) }
+{
+    Entry {
+        node: p as u64,
+        figure: figures[p],
+    }
+}
 
 // Of two nodes, the one that ranks first.
 fn first_of(figures: &[u64], a: usize, b: usize) -> usize
@@ -29,12 +40,9 @@ fn first_of(figures: &[u64], a: usize, b: usize) -> usize
     if figures.len() <= a {
         return b;
     }
-    let f = figures[b];
-    let g = figures[a];
-    if ranks_before(f, b as u64, g, a as u64) {
-        return b;
-    }
-    a
+    let x = stored(figures, a);
+    let y = stored(figures, b);
+    if y.ranks_before(x) { b } else { a }
 }
 
 // Of the best so far and node i, the one that ranks first. A node that is taken does not count.
@@ -54,12 +62,9 @@ fn head_of(figures: &[u64], taken: &[u8], b: usize) -> usize
     ensures { Names (length figures.now) (head_of (looking_in figures.now taken.now) b) result }
 {
     let n = figures.len();
-    let end = least(BLOCK * b + BLOCK, n);
     let mut best = n;
-    let mut i = BLOCK * b;
-    while i < end {
+    for i in BLOCK * b..n.min(BLOCK * b + BLOCK) {
         best = better(figures, taken, best, i);
-        i += 1;
     }
     best
 }
@@ -69,7 +74,7 @@ fn blocks_for(n: usize) -> usize
     requires { n ≤ max_nodes }
     ensures { result ≡ blocks_for n }
 {
-    (n + (BLOCK - 1)) / BLOCK
+    n.div_ceil(BLOCK)
 }
 
 // The heads of all blocks.
@@ -85,24 +90,24 @@ pub(crate) fn heads_of(figures: &[u64], taken: &[u8]) -> Heads
 }
 
 // The heads after node p was taken.
-pub(crate) fn renewed(figures: &[u64], taken: &[u8], heads: Heads, p: usize) -> Heads
+pub(crate) fn renewed(figures: &[u64], taken: &[u8], mut heads: Heads, p: usize) -> Heads
     requires { (p < length figures.now) × Lookable figures.now taken.now × HeadsBut (looking_in figures.now taken.now) heads (p / block_size) }
     ensures { HeadsAre (looking_in figures.now taken.now) result }
 {
-    let mut after = heads;
     let b = p / BLOCK;
-    after[b] = head_of(figures, taken, b) as u16;
-    after
+    heads[b] = head_of(figures, taken, b) as u16;
+    heads
 }
 
 // The first by rank of the heads.
-pub(crate) fn next_node(figures: &[u64], heads: Heads) -> usize
-    requires { (length figures.now ≤ max_nodes) × ((b : ℕ) → b < blocks_for (length figures.now) → get_or heads b 0 ≤ length figures.now) }
-    ensures { Names (length figures.now) (best_head figures.now heads (blocks_for (length figures.now))) result }
+pub(crate) fn next_node(figures: &[u64], heads: &Heads) -> Option<usize>
+    requires { (length figures.now ≤ max_nodes) × ((b : ℕ) → b < blocks_for (length figures.now) → get_or heads.now b 0 ≤ length figures.now) }
+    ensures { Found (length figures.now) (best_head figures.now heads.now (blocks_for (length figures.now))) result }
 {
-    let mut best = figures.len();
-    for b in 0..blocks_for(figures.len()) {
+    let n = figures.len();
+    let mut best = n;
+    for b in 0..blocks_for(n) {
         best = first_of(figures, best, heads[b] as usize);
     }
-    best
+    if best < n { Some(best) } else { None }
 }

@@ -5,60 +5,50 @@ ghost use Rattle.state.specs.State.{state};
 ghost use Rattle.topk.specs.Inside.Turns.{ListFits, TurnFits, Turned, truth_of, progress_of, Leaves};
 ghost use Rattle.topk.specs.List.{list_of};
 
-use crate::entries::{insert, stops_at};
-use crate::next::{Heads, heads_of, next_node, renewed};
+use crate::entries::{Entry, insert, stops_at};
+use crate::next::{Heads, heads_of, next_node, renewed, stored};
 use crate::worth::worth_of;
 use packed::bits::put;
 use state::marks::set_mark;
 
 // What a turn leaves besides what lies in the buffers.
-#[derive(Drop)]
+#[derive(Clone, Copy)]
 pub struct Turn {
-    pub stopped: bool,
     pub kept: usize,
     pub recomputed: u64,
     pub heads: Heads,
 }
 
-// One turn: the next node is taken, unless the list is done.
+// One turn: the next node is taken. None where the list is done: nothing is written then.
 fn one_turn(
     edges: &[u8],
     figures: &mut [u64],
     marks: &mut [u8],
     taken: &mut [u8],
     entries: &mut [u64],
-    heads: Heads,
     k: usize,
-    kept: usize,
-    recomputed: u64,
-) -> Turn
-    requires { TurnFits figures.old edges.now marks.old taken.old entries.old heads k kept recomputed }
-    ensures { Turned (truth_of edges.now figures.old) k (progress_of figures.old marks.old taken.old entries.old kept recomputed) result figures.new marks.new taken.new entries.old entries.new }
+    last: Turn,
+) -> Option<Turn>
+    requires { TurnFits figures.old edges.now marks.old taken.old entries.old k last }
+    ensures { Turned (truth_of edges.now figures.old) k (progress_of figures.old marks.old taken.old entries.old last) result figures.new marks.new taken.new entries.old entries.new }
 {
-    let p = next_node(figures, heads);
-    let done = Turn {
-        stopped: true,
-        kept,
-        recomputed,
-        heads,
-    };
-    if figures.len() <= p {
-        return done;
+    let p = next_node(figures, &last.heads)?;
+    if stops_at(entries, last.kept, k, stored(figures, p)) {
+        return None;
     }
-    if stops_at(entries, kept, k, p as u64, figures[p]) {
-        return done;
-    }
-    let w = worth_of(edges, figures, marks, p, recomputed);
-    let f = w.figure;
-    figures[p] = f;
+    let w = worth_of(edges, figures, marks, p, last.recomputed);
+    figures[p] = w.figure;
     set_mark(marks, p, false);
     put(taken, p, true);
-    Turn {
-        stopped: false,
-        kept: insert(entries, kept, k, p as u64, f),
+    let listed = Entry {
+        node: p as u64,
+        figure: w.figure,
+    };
+    Some(Turn {
+        kept: insert(entries, last.kept, k, listed),
         recomputed: w.recomputed,
-        heads: renewed(figures, taken, heads, p),
-    }
+        heads: renewed(figures, taken, last.heads, p),
+    })
 }
 
 // All turns, from no node taken. Returns how many nodes were recomputed.
@@ -73,21 +63,16 @@ pub(crate) fn run(
     requires { ListFits (length figures.old) edges.now marks.old entries.old k × (taken.old ≡ replicate (scratch_bytes (length figures.old)) 0) }
     ensures { Leaves (list_of (state edges.now figures.old marks.old) k) figures.new marks.new entries.old entries.new result }
 {
-    let mut heads = heads_of(figures, taken);
-    let mut kept = 0;
-    let mut recomputed = 0;
-    let mut i = 0;
-    while i < figures.len() {
-        let t = one_turn(
-            edges, figures, marks, taken, entries, heads, k, kept, recomputed,
-        );
-        kept = t.kept;
-        recomputed = t.recomputed;
-        heads = t.heads;
-        if t.stopped {
-            return recomputed;
-        }
-        i += 1;
+    let mut turn = Turn {
+        kept: 0,
+        recomputed: 0,
+        heads: heads_of(figures, taken),
+    };
+    for _i in 0..figures.len() {
+        let Some(next) = one_turn(edges, figures, marks, taken, entries, k, turn) else {
+            return turn.recomputed;
+        };
+        turn = next;
     }
-    recomputed
+    turn.recomputed
 }

@@ -9,7 +9,7 @@ use ego::score::score_of;
 use state::marks::is_stale;
 
 // A node's figure as it is listed, and how many nodes have been recomputed then.
-#[derive(Drop)]
+#[derive(Clone, Copy)]
 pub struct Worth {
     pub figure: u64,
     pub recomputed: u64,
@@ -20,10 +20,8 @@ fn fresh_score(edges: &[u8], n: usize, p: usize) -> u64
     requires { (p < n) × Scorable n edges.now }
     ensures { result ≡ score (edge edges.now) n p }
 {
-    let found = neighbours_of(edges, n, p);
-    let count = found.count;
-    let nodes = found.nodes;
-    score_of(edges, nodes, count)
+    let near = neighbours_of(edges, n, p);
+    score_of(edges, &near)
 }
 
 // A stale node is recomputed; an exact node's figure is its own. So many nodes were recomputed before.
@@ -38,10 +36,13 @@ pub(crate) fn worth_of(
     ensures { result ≡ worth_of edges.now figures.now marks.now p recomputed }
 {
     if is_stale(marks, p) {
-        let figure = fresh_score(edges, figures.len(), p);
-        let recomputed = recomputed + 1;
-        return Worth { figure, recomputed };
+        return Worth {
+            figure: fresh_score(edges, figures.len(), p),
+            recomputed: recomputed + 1,
+        };
     }
-    let figure = figures[p];
-    Worth { figure, recomputed }
+    Worth {
+        figure: figures[p],
+        recomputed,
+    }
 }

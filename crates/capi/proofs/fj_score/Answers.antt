@@ -4,4 +4,4 @@ use Rattle.capi.proofs.CallLaws.{score_given}
 use Rattle.capi.proofs.fj_score.Goals as goal
 
 pub returns : goal.returns
-returns c = c.one_number.ensures ∙ score_given _ _ _ c.score-found.ensures
+returns c = c.one_number.ensures ∙ score_given _ _ _ c.score.ensures

@@ -1,5 +1,5 @@
 -- One edit, an add where `on` and a removal elsewhere: what it tests, what it answers and leaves, and what its parts require. Assumes nothing.
-use Rattle.std.specs.Prelude.{Bool, cond, not, List, [], ◌∷◌, ◌++◌, ◌≢◌, ◌≡◌, ℕ, ◌+◌, ◌≤◌, ◌<◌, max, eqb, get_or, length}
+use Rattle.std.specs.Prelude.{Bool, cond, not, List, [], ◌∷◌, ◌++◌, ◌≢◌, ◌≡◌, ℕ, ◌+◌, ◌≤◌, ◌<◌, max, get_or, length, IfOk, Result}
 use Rattle.packed.specs.Inside.Room.{Room}
 use Rattle.packed.specs.Edges.{edge, with_edge}
 use Rattle.ego.specs.Limits.{limit}
@@ -7,11 +7,12 @@ use Rattle.ego.specs.Graph.{Graph, degree}
 use Rattle.state.specs.Marks.{mark_bytes}
 use Rattle.state.specs.State.{State, state, size, graph}
 use Rattle.state.specs.Refusal.{Condition, refusal, node_number, same_nodes, edge_present, edge_absent, crowded_before, crowded_after, ends, touched}
+use Rattle.state.specs.Answers.{refusal_of}
+use Rattle.state.specs.declared.refusal.Refusal.{Refusal}
 use Rattle.state.specs.Outcome.{Outcome, left, outcome, state_lengths}
 use Rattle.edits.specs.Edit.{added, removed}
-use Rattle.edits.specs.Inside.Touched.{Lists, Markable, none_touched, touched_of}
-use Rattle.edits.specs.Inside.Renewal.{BoundEach, renewal_by, no_renewal, Renewable, renewed_by}
-use Rattle.edits.specs.declared.examined.Examined.{Examined}
+use Rattle.edits.specs.Inside.Touched.{Lists, Markable, touched_of}
+use Rattle.edits.specs.Inside.Renewal.{BoundEach, renewal_by, Renewable, renewed_after}
 use Rattle.edits.specs.declared.renewal.Renewal.{Renewal}
 use Rattle.edits.specs.declared.touched.Touched.{Touched}
 
@@ -40,19 +41,16 @@ edit_call s a b on = outcome (edit_conditions s.edges s.marks (size s) a b on) s
 unfoldable pub renewal_of : List ℕ → ℕ → ℕ → ℕ → Bool → Renewal
 renewal_of edges n a b on = renewal_by on (touched_of (edge edges) n a b) (with_edge edges a b on) n
 
-unfoldable pub renewal_under : List Condition → Renewal → Renewal
-renewal_under conditions r = let refused = refusal conditions in cond (eqb refused 0) r (no_renewal refused)
-
--- Under some conditions it answers one renewal, and leaves edges and marks that are the call's, with figures that are renewed, whatever they were.
-pub record Renews (conditions : List Condition) (edges marks : List ℕ) (n a b : ℕ) (on : Bool) (r : Renewal) (edges' marks' : List ℕ) : Type 0 where
-  pub answer : r ≡ renewal_under conditions (renewal_of edges n a b on)
-  pub ready : Renewable r n
+-- Under some conditions it is refused, or answers one renewal, and leaves edges and marks that are the call's, with figures that are renewed, whatever they were.
+pub record Renews (conditions : List Condition) (edges marks : List ℕ) (n a b : ℕ) (on : Bool) (r : Result Renewal Refusal) (edges' marks' : List ℕ) : Type 0 where
+  pub answer : refusal_of r ≡ refusal conditions
+  pub ready : IfOk r (λ v. (v ≡ renewal_of edges n a b on) × Renewable v n)
   pub whole : (figures : List ℕ) → length figures ≡ n →
       let s = state edges figures marks in
-      left r.refusal (state edges' (renewed_by r figures) marks') ≡ outcome conditions s (changed s a b on)
+      left (refusal_of r) (state edges' (renewed_after r figures) marks') ≡ outcome conditions s (changed s a b on)
 
 -- under all its conditions
-abbrev pub Edits : List ℕ → List ℕ → ℕ → ℕ → ℕ → Bool → Renewal → List ℕ → List ℕ → Type 0
+abbrev pub Edits : List ℕ → List ℕ → ℕ → ℕ → ℕ → Bool → Result Renewal Refusal → List ℕ → List ℕ → Type 0
 Edits edges marks n a b on = Renews (edit_conditions edges marks n a b on) edges marks n a b on
 
 -- its pair is accepted
@@ -70,11 +68,10 @@ pub record Editable (edges : List ℕ) (n a b : ℕ) (on : Bool) (t : Touched) :
   pub few_before : (i : ℕ) → i < t.count → degree (edge edges) n (get_or t.nodes i 0) ≤ limit
   pub few_after : (i : ℕ) → i < t.count → degree (edge (with_edge edges a b on)) n (get_or t.nodes i 0) ≤ limit
 
--- the refusal under some conditions; where there is none an edit that can be made, and where there is one no node
-pub record Examines (conditions : List Condition) (edges : List ℕ) (n a b : ℕ) (on : Bool) (r : Examined) : Type 0 where
-  pub answer : r.refusal ≡ refusal conditions
-  pub ready : r.refusal ≡ 0 → Editable edges n a b on r.touching
-  pub none : r.refusal ≢ 0 → r.touching ≡ none_touched
+-- the refusal under some conditions; where there is none, the nodes that an edit touches that can be made
+pub record Examines (conditions : List Condition) (edges : List ℕ) (n a b : ℕ) (on : Bool) (r : Result Touched Refusal) : Type 0 where
+  pub answer : refusal_of r ≡ refusal conditions
+  pub ready : IfOk r (Editable edges n a b on)
 
 -- its lengths and its pair are accepted, and no node has more edges than the limit, before it and after it
 pub record Steppable (s : State) (a b : ℕ) (on : Bool) : Type 0 where

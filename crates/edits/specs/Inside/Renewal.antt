@@ -1,5 +1,5 @@
 -- What an edit leaves to be written to the figures: the nodes that it touches, with their bounds. Assumes nothing.
-use Rattle.std.specs.Prelude.{Bool, true, cond, List, ◌≡◌, ℕ, zero, suc, ◌^◌, ◌≤◌, ◌<◌, ltb, get_or, replicate, set}
+use Rattle.std.specs.Prelude.{Bool, true, cond, List, ◌≡◌, ℕ, zero, suc, ◌^◌, ◌≤◌, ◌<◌, ltb, get_or, set, Result, Ok, Err}
 use Rattle.packed.specs.Edges.{edge}
 use Rattle.packed.specs.Pairs.{max_nodes}
 use Rattle.packed.specs.Inside.Room.{Room}
@@ -9,22 +9,17 @@ use Rattle.ego.specs.Graph.{degree}
 use Rattle.ego.specs.Limits.{limit}
 use Rattle.edits.specs.Edit.{new_figure}
 use Rattle.edits.specs.Inside.Touched.{max_touched, of_each}
+use Rattle.state.specs.declared.refusal.Refusal.{Refusal}
 use Rattle.edits.specs.declared.renewal.Renewal.{Renewal}
 use Rattle.edits.specs.declared.touched.Touched.{Touched}
 
 -- the touched nodes with their bounds in a graph of n nodes: the ends take theirs where an edge is added, and all where one is removed
 abbrev pub renewal_by : Bool → Touched → List ℕ → ℕ → Renewal
 renewal_by on t edges n = record {
-  refusal = 0;
-  nodes = t.nodes;
+  touching = t;
   bounds = of_each (bound (edge edges) n) t.nodes t.count;
   taken = cond on 2 t.count;
-  count = t.count;
 }
-
--- none, where the edit is refused
-abbrev pub no_renewal : ℕ → Renewal
-no_renewal refusal = record { refusal = refusal; nodes = replicate max_touched 0; bounds = replicate max_touched 0; taken = 0; count = 0 }
 
 -- the first `count` nodes have bounds
 pub record BoundEach (edges : List ℕ) (n : ℕ) (nodes : List ℕ) (count : ℕ) : Type 0 where
@@ -39,10 +34,10 @@ Covers edges n nodes count set = (i q : ℕ) → i < count → q < n → edge ed
 
 -- its nodes are some of n, and their bounds numbers of 64 bits
 pub record Renewable (r : Renewal) (n : ℕ) : Type 0 where
-  pub few : r.count ≤ max_touched
-  pub small : (i : ℕ) → i < r.count → get_or r.nodes i 0 < max_nodes
-  pub below : (i : ℕ) → i < r.count → get_or r.nodes i 0 < n
-  pub fits : (i : ℕ) → i < r.count → get_or r.bounds i 0 < 2 ^ 64
+  pub few : r.touching.count ≤ max_touched
+  pub small : (i : ℕ) → i < r.touching.count → get_or r.touching.nodes i 0 < max_nodes
+  pub below : (i : ℕ) → i < r.touching.count → get_or r.touching.nodes i 0 < n
+  pub fits : (i : ℕ) → i < r.touching.count → get_or r.bounds i 0 < 2 ^ 64
 
 -- the figure of a node that is renewed: its bound, or the smaller of the two
 abbrev pub figure_by : Bool → ℕ → ℕ → ℕ
@@ -57,4 +52,9 @@ renew_each nodes bounds taken figures (suc i) =
     set old p (figure_by (ltb i taken) (get_or old p 0) (get_or bounds i 0))
 
 abbrev pub renewed_by : Renewal → List ℕ → List ℕ
-renewed_by r figures = renew_each r.nodes r.bounds r.taken figures r.count
+renewed_by r figures = renew_each r.touching.nodes r.bounds r.taken figures r.touching.count
+
+-- a refused edit renews nothing
+abbrev pub renewed_after : Result Renewal Refusal → List ℕ → List ℕ
+renewed_after (Ok r) figures = renewed_by r figures
+renewed_after (Err e) figures = figures

@@ -1,5 +1,5 @@
 -- The walk over the pairs that theirs has changed, in bit order. Assumes nothing.
-use Rattle.std.specs.Prelude.{List, ◌≢◌, ◌≡◌, ℕ, ◌+◌, ◌≤◌, ◌<◌}
+use Rattle.std.specs.Prelude.{List, ◌≡◌, ℕ, ◌+◌, ◌≤◌, ◌<◌}
 use Rattle.packed.specs.Bits.{bit_at, differ}
 use Rattle.packed.specs.Pairs.{pair_count}
 use Rattle.packed.specs.Inside.Search.{FirstFrom}
@@ -17,9 +17,13 @@ pub record Place (n a b : ℕ) : Type 0 where
   pub low : a ≤ b
   pub bits : pair_count b + a ≤ pair_count n
 
--- the first pair from that place on that theirs has changed, and 0, n where there is none
+-- from that place on theirs has changed none of the bits before i
+abbrev pub FirstChanged : List ℕ → List ℕ → ℕ → ℕ → ℕ → ℕ → Type 0
+FirstChanged theirs base n a b i = FirstFrom (λ k. differ (bit_at theirs k) (bit_at base k)) (pair_count b + a) (pair_count n) i
+
+-- the first pair from that place on that theirs has changed
 pub record NextPair (theirs base : List ℕ) (n a b : ℕ) (r : Pair) : Type 0 where
   pub onward : b ≤ r.b
-  pub found : r.b ≢ n → (r.a < r.b) × (r.b < n)
-  pub ended : r.b ≡ n → r.a ≡ 0
-  pub first : FirstFrom (λ i. differ (bit_at theirs i) (bit_at base i)) (pair_count b + a) (pair_count n) (pair_count r.b + r.a)
+  pub below : r.a < r.b
+  pub inside : r.b < n
+  pub first : FirstChanged theirs base n a b (pair_count r.b + r.a)

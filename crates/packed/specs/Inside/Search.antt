@@ -1,5 +1,5 @@
 -- What a search answers, and the words that it looks at. Assumes nothing.
-use Rattle.std.specs.Prelude.{Bool, true, false, not, List, ◌≡◌, ℕ, ◌+◌, ◌-◌, ◌*◌, ◌≤◌, ◌<◌, eqb}
+use Rattle.std.specs.Prelude.{Bool, true, false, not, List, Option, Some, None, ◌≡◌, ℕ, ◌+◌, ◌-◌, ◌*◌, ◌≤◌, ◌<◌, eqb}
 use Rattle.arith.specs.Digits.{bit_of}
 use Rattle.packed.specs.Bits.{run_of}
 
@@ -9,6 +9,11 @@ pub record FirstFrom (test : ℕ → Bool) (from to r : ℕ) : Type 0 where
   pub stop : r ≤ to
   pub none : (i : ℕ) → from ≤ i → i < r → test i ≡ false
   pub some : r < to → test r ≡ true
+
+-- the first number from `from` on that passes the test, of those below `to`
+abbrev pub FirstIn : (ℕ → Bool) → ℕ → ℕ → Option ℕ → Type 0
+FirstIn test from to (Some i) = FirstFrom test from to i × (i < to)
+FirstIn test from to None = FirstFrom test from to to
 
 -- a word has the 64 bits of a test from byte k on
 abbrev pub WordHas : (ℕ → Bool) → ℕ → ℕ → Type 0

@@ -1,5 +1,5 @@
 -- The records as the code goes over them, and the pairs by their numbers. Assumes nothing.
-use Rattle.std.specs.Prelude.{Bool, false, cond, ◌&&◌, List, ◌≡◌, ℕ, zero, suc, ◌+◌, ◌<◌, ◌≤◌, eqb, leb, ltb, length, get_or}
+use Rattle.std.specs.Prelude.{Bool, false, cond, ◌&&◌, List, Option, Some, None, ◌≡◌, ℕ, zero, suc, ◌+◌, ◌<◌, ◌≤◌, eqb, leb, ltb, length, get_or}
 use Rattle.packed.specs.Bits.{bytes_of}
 use Rattle.packed.specs.Inside.Windows.{place_in, window}
 use Rattle.packed.specs.Pairs.{max_nodes, pair_index}
@@ -19,6 +19,11 @@ number_at survey (suc j) = (measurement_at survey j).number
 unfoldable pub last_to : List ℕ → (ℕ → Bool) → ℕ → ℕ
 last_to survey test zero = 0
 last_to survey test (suc i) = cond (test i && leb (number_at survey (last_to survey test i)) (measurement_at survey i).number) (suc i) (last_to survey test i)
+
+-- its position
+unfoldable pub position_at : ℕ → Option ℕ
+position_at zero = None
+position_at (suc j) = Some j
 
 -- its strength reaches the threshold
 unfoldable pub reached_by : List ℕ → ℕ → ℕ → Bool

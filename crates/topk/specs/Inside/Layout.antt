@@ -1,5 +1,5 @@
 -- Entries in order, as they lie in a buffer of numbers, and an entry put in among them. Assumes nothing.
-use Rattle.std.specs.Prelude.{cond, false, ◌++◌, [], List, ◌∷◌, ◌≡◌, ◌*◌, ◌+◌, ◌-◌, suc, zero, ℕ, drop, get_or, length, take}
+use Rattle.std.specs.Prelude.{cond, false, ◌++◌, [], List, ◌∷◌, ◌≡◌, ◌*◌, ◌+◌, suc, zero, ℕ, drop, get_or, length, take}
 use Rattle.topk.specs.Entries.{Entry, entry, over, ranks_before}
 
 -- entry i of a buffer of numbers
@@ -24,10 +24,6 @@ unfoldable pub place : Entry → List Entry → ℕ
 place e [] = zero
 place e (x ∷ xs) = cond (ranks_before e x) zero (suc (place e xs))
 
--- the buffer with its numbers from s up to t moved on by two
-unfoldable pub moved_on : List ℕ → ℕ → ℕ → List ℕ
-moved_on buffer s t = take (s + 2) buffer ++ (take (t - s) (drop s buffer) ++ drop (t + 2) buffer)
-
 -- the buffer with a node and its figure put in at index i
 unfoldable pub spliced : List ℕ → ℕ → ℕ → ℕ → List ℕ
 spliced buffer i node figure = take i buffer ++ (node ∷ figure ∷ drop i buffer)
@@ -37,8 +33,8 @@ abbrev pub mixed : List ℕ → List ℕ → ℕ → List ℕ
 mixed front rest n = take n front ++ drop n rest
 
 -- the buffer with an entry put in at a place, as far as r entries go
-abbrev pub entry_put_in : List ℕ → ℕ → ℕ → ℕ → ℕ → List ℕ
-entry_put_in buffer spot node figure r = mixed (spliced buffer (2 * spot) node figure) buffer (2 * r)
+abbrev pub entry_put_in : List ℕ → ℕ → Entry → ℕ → List ℕ
+entry_put_in buffer spot e r = mixed (spliced buffer (2 * spot) e.node e.figure) buffer (2 * r)
 
 -- a buffer has become another, whose first r entries are xs
 pub record Kept (xs : List Entry) (before after : List ℕ) (r : ℕ) : Type 0 where

@@ -1,5 +1,5 @@
 -- Which node comes next, by the best of each block of nodes, and when the list stops. Assumes nothing.
-use Rattle.std.specs.Prelude.{Bool, cond, true, [], List, ◌≢◌, ◌≡◌, ℕ, zero, suc, ◌+◌, ◌-◌, ◌*◌, ◌/◌, ◌<◌, ◌≤◌, min, ltb, get_or, length}
+use Rattle.std.specs.Prelude.{Bool, cond, true, IfSome, None, Option, Some, [], List, ◌≢◌, ◌≡◌, ℕ, zero, suc, ◌+◌, ◌-◌, ◌*◌, ◌/◌, ◌<◌, ◌≤◌, min, ltb, get_or, length}
 use Rattle.arith.specs.Sums.{bit, tabulate}
 use Rattle.packed.specs.Bits.{bit_at}
 use Rattle.packed.specs.Pairs.{max_nodes}
@@ -38,6 +38,15 @@ next_of n p = cond (ltb p n) (at p) nothing
 pub record Names (n : ℕ) (found : Next) (r : ℕ) : Type 0 where
   pub within : r ≤ n
   pub named : next_of n r ≡ found
+
+-- r is what is found among n nodes
+abbrev pub node_of : Option ℕ → Next
+node_of None = nothing
+node_of (Some p) = at p
+
+pub record Found (n : ℕ) (found : Next) (r : Option ℕ) : Type 0 where
+  pub within : IfSome r (λ p. p < n)
+  pub named : node_of r ≡ found
 
 -- figures and bits of no more nodes than there may be
 pub record Lookable (figures scratch : List ℕ) : Type 0 where

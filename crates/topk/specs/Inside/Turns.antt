@@ -1,5 +1,5 @@
 -- What the list's functions say of the lent buffers: what they ask, and what a turn and the whole list leave. Assumes nothing.
-use Rattle.std.specs.Prelude.{cond, List, ◌≡◌, ◌*◌, ◌+◌, ◌<◌, ℕ, ◌≤◌, get_or, length}
+use Rattle.std.specs.Prelude.{cond, false, true, None, Option, Some, List, ◌≡◌, ◌*◌, ◌+◌, ◌<◌, ℕ, ◌≤◌, get_or, length}
 use Rattle.arith.specs.Sums.{bit}
 use Rattle.ego.specs.Graph.{degree}
 use Rattle.ego.specs.Limits.{limit}
@@ -33,13 +33,13 @@ pub record ListFits (n : ℕ) (edges marks entries : List ℕ) (k : ℕ) : Type 
   pub some : 0 < k
 
 -- what a turn asks besides: a bit for each node, the heads of the blocks, at most k kept, in order, and not every node recomputed
-pub record TurnFits (figures edges marks taken entries heads : List ℕ) (k kept recomputed : ℕ) : Type 0 where
+pub record TurnFits (figures edges marks taken entries : List ℕ) (k : ℕ) (t : Turn) : Type 0 where
   pub list : ListFits (length figures) edges marks entries k
   pub lookable : Lookable figures taken
-  pub heads_are : HeadsAre (looking_in figures taken) heads
-  pub fit : kept ≤ k
-  pub ordered : Ordered (entries_of kept entries)
-  pub less : recomputed < length figures
+  pub heads_are : HeadsAre (looking_in figures taken) t.heads
+  pub fit : t.kept ≤ k
+  pub ordered : Ordered (entries_of t.kept entries)
+  pub less : t.recomputed < length figures
 
 -- ---- one turn
 
@@ -54,24 +54,37 @@ worth_of edges figures marks p recomputed = record {
 }
 
 -- the list as it lies in the buffers
-abbrev pub progress_of : List ℕ → List ℕ → List ℕ → List ℕ → ℕ → ℕ → Progress
-progress_of figures marks taken entries kept recomputed =
-    record { figures = figures; marks = marks; taken = taken_of (length figures) taken; kept = entries_of kept entries; recomputed = recomputed }
+abbrev pub progress_of : List ℕ → List ℕ → List ℕ → List ℕ → Turn → Progress
+progress_of figures marks taken entries t =
+    record { figures = figures; marks = marks; taken = taken_of (length figures) taken; kept = entries_of t.kept entries; recomputed = t.recomputed }
 
 -- the buffers and the heads hold the list s; the entries lie over what was there
-pub record Holds (s : Progress) (figures marks taken before entries heads : List ℕ) (kept recomputed : ℕ) : Type 0 where
+pub record Holds (s : Progress) (figures marks taken before entries : List ℕ) (t : Turn) : Type 0 where
   pub figures_are : figures ≡ s.figures
   pub marks_are : marks ≡ s.marks
   pub taken_are : taken_of (length figures) taken ≡ s.taken
   pub entries_are : entries ≡ over s.kept before
-  pub heads_are : HeadsAre (looking_in figures taken) heads
-  pub kept_is : kept ≡ length s.kept
-  pub recomputed_is : recomputed ≡ s.recomputed
+  pub heads_are : HeadsAre (looking_in figures taken) t.heads
+  pub kept_is : t.kept ≡ length s.kept
+  pub recomputed_is : t.recomputed ≡ s.recomputed
 
--- a turn of the list s says whether that has stopped, and leaves the list one step on
-pub record Turned (truth : ℕ → ℕ) (k : ℕ) (s : Progress) (t : Turn) (figures marks taken before entries : List ℕ) : Type 0 where
-  pub stops : t.stopped ≡ stopped k s
-  pub holds : Holds (step truth k s) figures marks taken before entries t.heads t.kept t.recomputed
+-- the list s has stopped, and nothing was written
+pub record Done (k : ℕ) (s : Progress) (figures marks taken before entries : List ℕ) : Type 0 where
+  pub stops : stopped k s ≡ true
+  pub figures_are : figures ≡ s.figures
+  pub marks_are : marks ≡ s.marks
+  pub taken_are : taken_of (length figures) taken ≡ s.taken
+  pub entries_are : entries ≡ before
+
+-- the list s has not stopped, and the buffers hold it one step on
+pub record Gone (truth : ℕ → ℕ) (k : ℕ) (s : Progress) (t : Turn) (figures marks taken before entries : List ℕ) : Type 0 where
+  pub goes : stopped k s ≡ false
+  pub holds : Holds (step truth k s) figures marks taken before entries t
+
+-- a turn of the list s, which finds that it is done or leaves it one step on
+abbrev pub Turned : (ℕ → ℕ) → ℕ → Progress → Option Turn → List ℕ → List ℕ → List ℕ → List ℕ → List ℕ → Type 0
+Turned truth k s None figures marks taken before entries = Done k s figures marks taken before entries
+Turned truth k s (Some t) figures marks taken before entries = Gone truth k s t figures marks taken before entries
 
 -- ---- the whole list
 

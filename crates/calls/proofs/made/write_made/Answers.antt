@@ -1,11 +1,10 @@
 -- `calls::made::write_made` meets its contract. Assumes nothing.
 use mathlib.Core.Bool.{Bool}
 use mathlib.Core.List.{List}
-use mathlib.Core.Path.{ap, subst, sym, ◌∙◌, ◌≡◌}
+use mathlib.Core.Path.{ap, sym, ◌∙◌, ◌≡◌}
 use Prim.Native.Nat.{◌-◌, ℕ}
 use lib.ListN.{drop, length, take}
 use Rattle.packed.specs.Edges.{edge}
-use Rattle.packed.specs.Inside.Room.{Room}
 use Rattle.state.specs.Refusal.{everyone, snapshot_edges, too_many}
 use Rattle.calls.proofs.MadeLaws.{made_crowded, made_written}
 use Rattle.calls.proofs.SnapshotLaws.{part_is}
@@ -22,7 +21,4 @@ returns-then-any_over c = made_crowded _ _ _ (sym (over c.args.made.now c.args.n
 
 pub returns : goal.returns
 returns c =
-    ap (λ l. written 0 l) c.copy.ensures ∙ made_written _ _ _ (sym (over c.args.made.now c.args.n c.any_over.ensures) ∙ c.if-any_over.false)
-
-pub any_over-requires : goal.any_over-requires
-any_over-requires c = subst (Room c.args.n) (sym (part_is c.args.made.now)) c.requires.2
+    ap (λ l. written 0 l) c.copy_from_slice.ensures.after ∙ made_written _ _ _ (sym (over c.args.made.now c.args.n c.any_over.ensures) ∙ c.if-any_over.false)

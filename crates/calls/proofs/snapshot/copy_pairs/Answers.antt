@@ -6,27 +6,18 @@ use lib.ListN.{length, set}
 use Rattle.calls.proofs.SnapshotLaws.{bytes_small, pairs_trimmed, pairs_whole}
 use Rattle.calls.proofs.snapshot.copy_pairs.Goals as goal
 
-pub copy-requires : goal.copy-requires
-copy-requires c = c.requires.2 ∙ sym c.requires.1
-
 pub overflow_mul-spare : goal.overflow_mul-spare
 overflow_mul-spare c = omega (arith, c.requires.1, bytes_small c.args.n c.requires.0)
 
-pub overflow_sub-spare : goal.overflow_sub-spare
-overflow_sub-spare c = omega (arith, c.row_start.ensures, c.requires.1)
-
-pub returns-then-spare-eq0 : goal.returns-then-spare-eq0
-returns-then-spare-eq0 c =
-    c.copy.ensures
+pub returns-else-spare-ne0 : goal.returns-else-spare-ne0
+returns-else-spare-ne0 c =
+    c.copy_from_slice.ensures.after
     ∙ pairs_whole c.args.edges.now c.args.n (λ k. (c.type_inv.edges k).fits) c.requires.1
-    (ap (λ m. 8 * length c.args.edges.now - m) (sym c.row_start.ensures) ∙ c.if-spare-eq0.true)
+    (ap (λ m. 8 * length c.args.edges.now - m) (sym c.row_start.ensures) ∙ c.if-spare-ne0.false)
 
-pub trimmed-requires : goal.trimmed-requires
-trimmed-requires c = omega (arith, c.row_start.ensures, c.requires.1)
-
-pub returns : goal.returns
-returns c =
+pub returns-then-spare-ne0 : goal.returns-then-spare-ne0
+returns-then-spare-ne0 c =
     let last = length c.args.edges.now - 1 in
-    ap (λ l. set l last c.trimmed.result) c.copy.ensures
+    ap (λ l. set l last c.trimmed.result) c.copy_from_slice.ensures.after
     ∙ pairs_trimmed c.args.edges.now c.args.n (λ k. (c.type_inv.edges k).fits) c.requires.1 last (omega arith)
-    (ap (λ m. 8 * length c.args.edges.now - m) c.row_start.ensures) c.if-spare-eq0.false c.trimmed.ensures
+    (ap (λ m. 8 * length c.args.edges.now - m) c.row_start.ensures) c.if-spare-ne0.true c.trimmed.ensures

@@ -1,17 +1,15 @@
 -- `capi::figures::figure_at` meets its contract. Assumes nothing.
+use mathlib.Core.List.{[]}
+use mathlib.Core.Path.{ap, ◌∙◌}
+use Prim.Native.Nat.{◌/◌}
 use native.Mathlib.Omega.{arith}
-use Rattle.capi.proofs.FigureLaws.{figure_end, figure_fits, figure_next, figure_start}
+use lib.ListN.{get_or, length}
+use Rattle.std.specs.Int.{from_le_bytes, w64}
+use Rattle.capi.proofs.FigureLaws.{figure_read}
 use Rattle.capi.proofs.figures.figure_at.Goals as goal
 
-pub loop-i-init : goal.loop-i-init
-loop-i-init c = figure_start _ _
-
-pub overflow_add-x : goal.overflow_add-x
-overflow_add-x c =
-    record { fits = figure_fits _ _ c.loop-i.i c.loop-i.invariant c.weighed-x.ensures (λ k. (c.type_inv.bytes k).fits) (omega arith) }
-
-pub loop-i-preserved : goal.loop-i-preserved
-loop-i-preserved c = figure_next _ _ c.loop-i.i c.loop-i.invariant c.weighed-x.ensures
-
 pub returns : goal.returns
-returns c = figure_end _ _ c.loop-i.i c.loop-i.invariant (omega arith)
+returns c =
+    let s = c.args in
+    c.from_le_bytes.ensures ∙ ap (λ l. from_le_bytes w64 (get_or l s.p [])) c.as_chunks.ensures.front
+    ∙ figure_read s.bytes.now s.p (length s.bytes.now / 8) [] (omega arith)

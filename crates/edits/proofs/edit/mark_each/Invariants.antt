@@ -3,5 +3,5 @@ use mathlib.Core.Path.{◌≡◌}
 use Rattle.edits.specs.Inside.Touched.{stale_each}
 use Rattle.edits.proofs.edit.mark_each.Given as goal
 
-abbrev pub invariant-loop-i : goal.invariant-loop-i
-invariant-loop-i l = l.marks ≡ stale_each l.nodes l.fn.marks l.i
+abbrev pub invariant-loop-p : goal.invariant-loop-p
+invariant-loop-p l = l.marks ≡ stale_each l.touching.nodes l.fn.marks l.p-index

@@ -5,5 +5,5 @@ use Rattle.packed.specs.Inside.Rows.{row_words}
 use Rattle.edits.specs.Inside.Renewal.{Covers}
 use Rattle.edits.proofs.renewal.neighbours_in.Given as goal
 
-abbrev pub invariant-loop-i : goal.invariant-loop-i
-invariant-loop-i l = Covers l.edges l.n l.nodes l.i l.set × (length l.set ≡ row_words)
+abbrev pub invariant-loop-p : goal.invariant-loop-p
+invariant-loop-p l = Covers l.edges l.n l.touching.nodes l.p-index l.set × (length l.set ≡ row_words)

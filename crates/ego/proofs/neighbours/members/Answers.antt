@@ -1,10 +1,6 @@
 -- `ego::neighbours::members` meets its contract: the row's nodes, as far as there are places. Assumes nothing.
-use native.Mathlib.Omega.{arith}
 use Rattle.ego.proofs.FoundLaws.{members_are}
 use Rattle.ego.proofs.neighbours.members.Goals as goal
-
-pub append-count-requires : goal.append-count-requires
-append-count-requires c = (omega arith, omega arith)
 
 pub returns : goal.returns
 returns c =

@@ -5,6 +5,3 @@ use Rattle.ego.proofs.neighbours.neighbours_of.Goals as goal
 
 pub returns : goal.returns
 returns c = c.members.ensures ∙ found_is c.args.edges.now c.args.n c.args.p c.requires.1.few c.row_of.ensures
-
-pub members-requires : goal.members-requires
-members-requires c = c.requires.1.few

@@ -3,9 +3,6 @@ use Rattle.std.proofs.Common.{sym, ◌∙◌}
 use Rattle.merge.specs.Inside.Steps.{corrects}
 use Rattle.merge.proofs.merged.correct.Goals as goal
 
-pub shift-requires : goal.shift-requires
-shift-requires c = rw c.has.ensures (c.requires.shiftable (sym c.takes.ensures ∙ c.if-takes.true))
-
 pub returns-then-takes : goal.returns-then-takes
 unfolding corrects
 returns-then-takes c = rw (sym c.takes.ensures ∙ c.if-takes.true, ← c.has.ensures) c.shift.ensures

@@ -1,15 +1,10 @@
--- The invariant and the measure of `corrected`'s loop: the degrees are those of the edges with the pairs before a, b settled.
-use Rattle.std.proofs.Common.{◌+◌, ◌-◌, ◌≡◌}
-use Rattle.packed.specs.Edges.{edge}
-use Rattle.packed.specs.Pairs.{pair_count}
-use Rattle.packed.specs.Inside.Degrees.{degrees_of}
-use Rattle.merge.proofs.WalkLaws.{over_to}
-use Rattle.merge.specs.Inside.Steps.{settled}
-use Rattle.merge.specs.Inside.Walk.{Place}
+-- The invariant of `corrected`'s loop: the degrees are those of the edges with the pairs before the walk's place settled.
+use Rattle.std.proofs.Common.{◌≡◌}
+use Rattle.merge.proofs.AfterLaws.{degrees_on_way}
+use Rattle.merge.specs.Inside.Pairs.{WalksOn}
 use Rattle.merge.proofs.merged.corrected.Given as goal
 
-abbrev pub invariant-loop-b : goal.invariant-loop-b
-invariant-loop-b l = Place l.n l.a l.b × (l.after ≡ degrees_of (over_to (settled (edge l.edges) (edge l.theirs) (edge l.base)) l.a l.b l.edges) l.n)
-
-abbrev pub decreases-loop-b : goal.decreases-loop-b
-decreases-loop-b l = pair_count l.n - (pair_count l.b + l.a)
+abbrev pub invariant-loop-pair : goal.invariant-loop-pair
+invariant-loop-pair l =
+    WalksOn l.changes l.n l.pair-iterator
+    × (l.degrees ≡ degrees_on_way l.edges l.changes.theirs.now l.changes.base.now l.n l.pair-iterator.a l.pair-iterator.b)

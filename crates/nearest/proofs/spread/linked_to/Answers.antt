@@ -1,15 +1,15 @@
--- `nearest::spread::linked_to` meets its contract: after k turns the rows of the nodes of the first k strips are taken in. Assumes nothing.
+-- `nearest::spread::linked_to` meets its contract: after k turns the rows of the nodes of the first k strips are put in. Assumes nothing.
 use Rattle.nearest.proofs.SpreadLaws.{linked_all, linked_more, linked_none, strip_inside}
 use Rattle.nearest.proofs.spread.linked_to.Goals as goal
 
 pub loop-k-init : goal.loop-k-init
-loop-k-init c = linked_none _ _ c.empty-r.ensures
+loop-k-init c = linked_none _ _ c.empty-linked.ensures
 
 pub loop-k-preserved : goal.loop-k-preserved
-loop-k-preserved c = linked_more _ _ c.loop-k.k c.loop-k.invariant c.with_rows-more.ensures
+loop-k-preserved c = linked_more _ _ c.loop-k.k c.loop-k.invariant c.unite_rows.ensures
 
-pub with_rows-more-requires : goal.with_rows-more-requires
-with_rows-more-requires c = (
+pub unite_rows-requires : goal.unite_rows-requires
+unite_rows-requires c = (
   c.requires.1 c.loop-k.k,
   c.loop-k-test.true,
   strip_inside c.args.set c.loop-k.k c.loop-k-test.true c.requires.2,

@@ -1,20 +1,14 @@
--- `nearest::strips::both` meets its contract: after k turns the first k words are made. Assumes nothing.
-use mathlib.Core.Bool.{◌&&◌}
-use mathlib.Core.Path.{refl}
+-- `nearest::strips::both` meets its contract. Assumes nothing.
+use Rattle.std.proofs.Common.{bit_and, get_or, rules, ◌&&◌}
 use native.Mathlib.Nat.{lt_of_le_of_lt}
-use lib.Bits.{and_le_l, bit_and}
-use Rattle.arith.proofs.Sums.{filling_more, filling_none}
+use lib.Bits.{and_le_l}
 use Rattle.arith.proofs.Words.{bit-and}
-use Rattle.nearest.proofs.SetLaws.{sets_op}
+use Rattle.nearest.proofs.SetLaws.{made_all, set_op}
+use Rattle.nearest.specs.Inside.Strips.{in_strips}
 use Rattle.nearest.proofs.strips.both.Goals as goal
 
 pub returns : goal.returns
+unfolding in_strips
 returns c =
-    sets_op bit_and ◌&&◌ bit-and _ _ (λ k. lt_of_le_of_lt (and_le_l _ _) (c.before.before.requires k))
-    c.before.loop-k.invariant c.loop-k-test.false
-
-pub loop-k-init : goal.loop-k-init
-loop-k-init c = filling_none _ _
-
-pub loop-k-preserved : goal.loop-k-preserved
-loop-k-preserved c = filling_more c.before.loop-k.invariant c.loop-k-test.true refl
+    set_op ◌&&◌ (λ k. bit_and (get_or c.args.x k 0) (get_or c.args.y k 0)) (λ k. get_or c.args.x k 0) (λ k. get_or c.args.y k 0) (λ k j _. bit-and _ _ j)
+    (λ k. lt_of_le_of_lt (and_le_l _ _) (c.requires k)) (made_all _ _ _ (λ k y q h. search rules) c.from_fn.ensures.items)

@@ -1,18 +1,14 @@
--- `nearest::strips::without` meets its contract: after k turns the first k words are made. Assumes nothing.
-use mathlib.Core.Bool.{◌&&◌, not}
-use mathlib.Core.Path.{refl}
-use lib.Bits.{bit_and, bit_xor}
-use Rattle.arith.proofs.Sums.{filling_more, filling_none}
-use Rattle.nearest.proofs.SetLaws.{bit_without, sets_op, without_lt}
+-- `nearest::strips::without` meets its contract. Assumes nothing.
+use Rattle.std.proofs.Common.{arith, bit_and, get_or, not, rules, ◌&&◌, ◌-◌, ◌^◌}
+use native.Mathlib.Nat.{lt_of_le_of_lt}
+use lib.Bits.{and_le_l}
+use Rattle.nearest.proofs.SetLaws.{bit_without, made_all, set_op}
+use Rattle.nearest.specs.Inside.Strips.{in_strips}
 use Rattle.nearest.proofs.strips.without.Goals as goal
 
 pub returns : goal.returns
+unfolding in_strips
 returns c =
-    sets_op (λ a b. bit_xor a (bit_and a b)) (λ a b. a && not b) bit_without _ _ (λ k. without_lt _ _ (c.before.before.requires k))
-    c.before.loop-k.invariant c.loop-k-test.false
-
-pub loop-k-init : goal.loop-k-init
-loop-k-init c = filling_none _ _
-
-pub loop-k-preserved : goal.loop-k-preserved
-loop-k-preserved c = filling_more c.before.loop-k.invariant c.loop-k-test.true refl
+    set_op (λ a b. a && not b) (λ k. bit_and (get_or c.args.x k 0) (2 ^ 64 - 1 - get_or c.args.y k 0)) (λ k. get_or c.args.x k 0) (λ k. get_or c.args.y k 0)
+    (λ k j l. bit_without _ _ j (omega (arith, c.requires.1 k)) (omega arith)) (λ k. lt_of_le_of_lt (and_le_l _ _) (c.requires.0 k))
+    (made_all _ _ _ (λ k y q h. search rules) c.from_fn.ensures.items)

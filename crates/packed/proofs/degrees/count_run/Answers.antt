@@ -75,9 +75,6 @@ pub overflow_sub-place-in-loop-left-2 : goal.overflow_sub-place-in-loop-left-2
 overflow_sub-place-in-loop-left-2 c =
     omega (arith, placed _ _ _ _ _ _ _ _ _ c.requires.0 c.loop-left.invariant (omega arith))
 
-pub bounds-counts-place : goal.bounds-counts-place
-bounds-counts-place c = inside _ _ _ _ _ _ _ _ _ c.requires.0 c.loop-left.invariant (omega arith)
-
 pub overflow_add-counts : goal.overflow_add-counts
 overflow_add-counts c =
     omega (arith, few _ _ _ _ _ _ _ _ _ c.requires.0 c.loop-left.invariant (omega arith), c.requires.0.room.few)

@@ -17,16 +17,8 @@ use Rattle.packed.proofs.degrees.ones_before.Goals as goal
 most : (es : List ℕ) (b i own run : ℕ) → max_run * (i + 1) ≤ b → own + ones run ≡ count_to (edge es b) (max_run * (i + 1)) → own + ones run ≤ b
 most es b i own run within total = omega (arith, count_to_le (edge es b) (max_run * (i + 1)))
 
-pub row_start-start-requires : goal.row_start-start-requires
-row_start-start-requires c = omega (arith, c.requires.0.few)
-
 pub loop-i-init : goal.loop-i-init
 loop-i-init c = sym (sum_to_none _)
-
-pub overflow_mul-i : goal.overflow_mul-i
-overflow_mul-i c =
-    let within : max_run * (c.loop-i.i + 1) ≤ c.args.b = omega (arith, c.requires.1) in
-    omega (arith, c.requires.0.few)
 
 pub overflow_add-start : goal.overflow_add-start
 overflow_add-start c =
@@ -37,13 +29,6 @@ pub run_of-requires : goal.run_of-requires
 run_of-requires c =
     let within : max_run * (c.loop-i.i + 1) ≤ c.args.b = omega (arith, c.requires.1) in
     (omega arith, omega arith, omega (arith, row_within c.args.b c.requires.0))
-
-pub overflow_cast-own : goal.overflow_cast-own
-overflow_cast-own c =
-    let within : max_run * (c.loop-i.i + 1) ≤ c.args.b = omega (arith, c.requires.1) in
-    let total = ones_more c.args.edges.now c.args.b c.loop-i.i within c.loop-i.invariant
-    (c.run_of.ensures ∙ ap (λ x. run_of c.args.edges.now (x + max_run * c.loop-i.i) max_run) c.row_start-start.ensures) in
-    omega (arith, most _ _ _ _ _ within total, c.requires.0.few)
 
 pub overflow_add-own : goal.overflow_add-own
 overflow_add-own c =
@@ -57,8 +42,3 @@ loop-i-preserved c =
     let within : max_run * (c.loop-i.i + 1) ≤ c.args.b = omega (arith, c.requires.1) in
     ones_more c.args.edges.now c.args.b c.loop-i.i within c.loop-i.invariant
     (c.run_of.ensures ∙ ap (λ x. run_of c.args.edges.now (x + max_run * c.loop-i.i) max_run) c.row_start-start.ensures)
-
-pub returns : goal.returns
-returns c =
-    let e : c.loop-i.i ≡ c.args.k = omega arith in
-    c.loop-i.invariant ∙ ap (λ i. count_to (edge c.args.edges.now c.args.b) (max_run * i)) e

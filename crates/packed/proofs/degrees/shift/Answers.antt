@@ -4,4 +4,4 @@ use Rattle.packed.proofs.degrees.shift.Goals as goal
 
 pub returns : goal.returns
 unfolding shifted
-returns c = cc (c.before.before.moved-first.ensures, c.moved-second.ensures)
+returns c = cc

@@ -7,9 +7,6 @@ use Rattle.packed.proofs.SetLaws.{row_size}
 use Rattle.packed.specs.Inside.Rows.{in_set, words_for}
 use Rattle.packed.proofs.edges.degree.Goals as goal
 
-pub size_of-requires : goal.size_of-requires
-size_of-requires c = omega (arith, c.words_for.ensures, c.requires.1.few)
-
 pub returns : goal.returns
 returns c =
     c.size_of.ensures ∙ ap₂ (λ set words. count_to (in_set set) (32 * words)) c.row_of.ensures c.words_for.ensures

@@ -1,12 +1,11 @@
 -- `packed::edges::same_pair` meets its contract. Assumes nothing.
-use Rattle.packed.proofs.PairLaws.{same_first, same_neither, same_second}
+use Rattle.packed.specs.Pairs.{same_pair}
 use Rattle.packed.proofs.edges.same_pair.Goals as goal
 
-pub returns-then-x-a : goal.returns-then-x-a
-returns-then-x-a c = same_first _ _ _ _ c.before.requires c.if-x-a.true
+pub returns-then-eq : goal.returns-then-eq
+unfolding same_pair
+returns-then-eq c = rw (← c.eq.ensures, c.if-eq.true)
 
-pub returns-then-x-b : goal.returns-then-x-b
-returns-then-x-b c = same_second _ _ _ _ c.before.if-x-a.false c.if-x-b.true
-
-pub returns : goal.returns
-returns c = same_neither _ _ _ _ c.before.if-x-a.false c.if-x-b.false
+pub returns-else-eq : goal.returns-else-eq
+unfolding same_pair
+returns-else-eq c = rw (← c.eq.ensures, c.if-eq.false) c.eq-else-eq.ensures

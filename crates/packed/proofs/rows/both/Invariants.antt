@@ -1,14 +1,9 @@
--- `packed::rows::both` meets its contract: after k turns the first k words are made. Assumes nothing.
-use mathlib.Core.Path.{◌≡◌}
-use Prim.Native.Nat.{◌-◌, ◌≤◌}
+-- What the loop of `packed::rows::both` keeps: the words before k are made, and the others are those of x.
 use lib.Bits.{bit_and}
-use lib.ListN.{get_or, replicate}
-use Rattle.arith.specs.Inside.Fill.{fill_to}
+use lib.ListN.{get_or}
+use Rattle.arith.proofs.Sums.{Filling}
 use Rattle.packed.specs.Inside.Rows.{row_words}
 use Rattle.packed.proofs.rows.both.Given as goal
 
 abbrev pub invariant-loop-k : goal.invariant-loop-k
-invariant-loop-k l = (l.k ≤ row_words) × (l.row ≡ fill_to (λ k'. bit_and (get_or l.x k' 0) (get_or l.y k' 0)) (replicate row_words 0) l.k)
-
-abbrev pub decreases-loop-k : goal.decreases-loop-k
-decreases-loop-k l = row_words - l.k
+invariant-loop-k l = Filling (λ j. bit_and (get_or l.fn.x j 0) (get_or l.y j 0)) l.fn.x row_words l.word-items l.k

@@ -10,6 +10,6 @@ use Rattle.packed.proofs.rows.insert.Goals as goal
 pub returns : goal.returns
 unfolding with_node
 returns c =
-    let s = c.before.args in
-    let row = s.set.now in
-    ap (λ m. set row (s.q / 32) (bit_or (get_or row (s.q / 32) 0) m)) (bit_mask s.q)
+    let row = c.args.set.now in
+    let q = c.args.q in
+    ap (λ m. set row (q / 32) (bit_or (get_or row (q / 32) 0) m)) (bit_mask q)

@@ -2,15 +2,11 @@
 use mathlib.Core.Path.{ap, ◌∙◌}
 use Prim.Native.Nat.{◌+◌}
 use native.Mathlib.Nat.{zero-add}
-use native.Mathlib.Omega.{arith}
-use lib.Count.{ones, ones-le}
+use lib.Count.{ones}
 use Rattle.arith.proofs.Sums.{count_to_ext}
 use Rattle.packed.proofs.SetLaws.{ones_word, word_is}
 use Rattle.packed.specs.Inside.Rows.{in_word}
 use Rattle.packed.proofs.rows.ones_of.Goals as goal
-
-pub overflow_cast-result : goal.overflow_cast-result
-overflow_cast-result c = omega (arith, ones-le 32 c.args.word c.ranges.word.fits)
 
 pub returns : goal.returns
 returns c =

@@ -1,26 +1,23 @@
--- `packed::rows::rows_within` meets its contract: after q turns the rows of the first q nodes are made. Assumes nothing.
-use mathlib.Core.Path.{sym}
+-- `packed::rows::rows_within` meets its contract: the rows of the nodes before q are made. Assumes nothing.
 use native.Mathlib.Omega.{arith}
-use Rattle.arith.proofs.Sums.{fill_end, fill_step, fill_to_none}
+use lib.ListN.{replicate}
+use Rattle.arith.proofs.Sums.{filling_length, filling_more}
 use Rattle.packed.proofs.PairLaws.{room_mono}
-use Rattle.packed.specs.Inside.Rows.{rows_within}
+use Rattle.packed.proofs.SetLaws.{fill_front, front_none}
+use Rattle.packed.specs.Inside.Rows.{row_words, rows_within}
 use Rattle.packed.proofs.rows.rows_within.Goals as goal
 
 pub loop-q-init : goal.loop-q-init
-loop-q-init c = (omega arith, sym (fill_to_none _ _))
+loop-q-init c = front_none _ _ c.args.n c.requires.few
 
 pub row_within-requires : goal.row_within-requires
-row_within-requires c = room_mono (omega arith) c.before.before.before.requires
-
-pub bounds-rows-q : goal.bounds-rows-q
-bounds-rows-q c = omega (arith, c.before.before.before.before.requires.few)
+row_within-requires c = room_mono (omega (arith, c.loop-q-test.true, filling_length c.loop-q.invariant)) c.requires
 
 pub loop-q-preserved : goal.loop-q-preserved
-loop-q-preserved c = (omega arith, fill_step _ _ c.before.before.loop-q.q c.before.before.loop-q.invariant.1 c.row_within.ensures)
+loop-q-preserved c =
+    let w = c.loop-q.invariant in
+    filling_more w (omega (arith, c.loop-q-test.true, filling_length w)) c.row_within.ensures
 
 pub returns : goal.returns
 unfolding rows_within
-returns c = fill_end _ _ c.before.loop-q.invariant.0 c.loop-q-test.false c.before.loop-q.invariant.1
-
-pub offset_bounds-rows-q : goal.offset_bounds-rows-q
-offset_bounds-rows-q c = omega (arith, bounds-rows-q c)
+returns c = fill_front _ _ (replicate row_words 0) c.args.n c.requires.few c.loop-q.invariant (omega (arith, c.loop-q-test.false))

@@ -4,6 +4,4 @@ use Rattle.packed.proofs.RunLaws.{run_word}
 use Rattle.packed.proofs.runs.run_of.Goals as goal
 
 pub returns : goal.returns
-returns c =
-    let s = c.before.before.before in
-    run_word s.args.bits.now s.args.from s.args.count (omega (arith, s.requires.1)) c.before.word_at.ensures c.field.ensures
+returns c = run_word c.args.bits.now c.args.from c.args.count (omega (arith, c.requires.1)) c.word_at.ensures c.field.ensures

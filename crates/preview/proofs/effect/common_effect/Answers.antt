@@ -1,25 +1,29 @@
 -- `preview::effect::common_effect` meets its contract. Assumes nothing.
-use mathlib.Core.Path.{ap, ◌∙◌}
-use native.Mathlib.Omega.{arith}
-use Rattle.preview.proofs.EndLaws.{crossed, falls_are, falls_fit}
+use Rattle.std.proofs.Common.{ap, arith, ◌∙◌}
+use Rattle.preview.proofs.EndLaws.{crossed, falls_are, falls_fit, first_there, second_there}
+use Rattle.preview.proofs.PresentLaws.{place_found}
 use Rattle.preview.specs.Inside.Effect.{common_effect}
 use Rattle.preview.specs.declared.effect.Effect.{Effect}
 use Rattle.preview.proofs.effect.common_effect.Goals as goal
 
--- both ends keep to the limit
-pub place_of-i-requires : goal.place_of-i-requires
-place_of-i-requires c = c.requires.2.4.both.first.few
+-- it is a neighbour of both ends
+pub unwrap-i-requires : goal.unwrap-i-requires
+unwrap-i-requires c = first_there c.requires.4 _ c.place_of.ensures
 
-pub place_of-j-requires : goal.place_of-j-requires
-place_of-j-requires c = c.requires.2.4.both.second.few
+pub unwrap-j-requires : goal.unwrap-j-requires
+unwrap-j-requires c = second_there c.requires.4 _ c.place_of-2.ensures
 
 -- the tables have what is asked for
 pub common_falls-requires : goal.common_falls-requires
-common_falls-requires c = (c.requires.0, c.requires.1, crossed c.requires.2.4 c.place_of-i.ensures c.place_of-j.ensures)
+common_falls-requires c =
+    crossed c.requires.4 (place_found c.args.ends.now.first.near.nodes c.place_of.ensures c.unwrap-i.ensures)
+    (place_found c.args.ends.now.second.near.nodes c.place_of-2.ensures c.unwrap-j.ensures)
 
 pub returns : goal.returns
 unfolding common_effect
-returns c = (
-  λ es n a b m. ap {B = Effect} (λ x. record { brings = 0; costs = x }) (c.common_falls.ensures ∙ falls_are m c.place_of-i.ensures c.place_of-j.ensures),
-  (omega arith, rw c.common_falls.ensures (falls_fit c.args.ends (crossed c.requires.2.4 c.place_of-i.ensures c.place_of-j.ensures))),
-)
+returns c =
+    let at = place_found c.args.ends.now.first.near.nodes c.place_of.ensures c.unwrap-i.ensures in
+    let at' = place_found c.args.ends.now.second.near.nodes c.place_of-2.ensures c.unwrap-j.ensures in (
+      λ es n a b m. ap {B = Effect} (λ x. record { brings = 0; costs = x }) (c.common_falls.ensures ∙ falls_are m at at'),
+      (omega arith, rw c.common_falls.ensures (falls_fit c.args.ends.now (crossed c.requires.4 at at'))),
+    )

@@ -6,35 +6,27 @@ use Rattle.preview.proofs.effect.effect_of.Goals as goal
 
 -- where the node is the first end
 pub end_effect-requires : goal.end_effect-requires
-end_effect-requires c = let h = c.requires.2.2.both.first in (c.requires.0, c.requires.1, h.inside, end_worded h)
+end_effect-requires c = let h = c.requires.2.both.first in (h.inside, end_worded h)
 
 pub returns-then-p-a : goal.returns-then-p-a
 unfolding effect_of
 returns-then-p-a c = (
   λ es n r. rw (eq-eqb c.args.p c.args.a c.if-p-a.true) (end_is r.both.first c.end_effect.ensures),
-  end_fits c.requires.2.2.both.first c.end_effect.ensures,
+  end_fits c.requires.2.both.first c.end_effect.ensures,
 )
 
 -- the second
 pub end_effect-requires-then-p-b : goal.end_effect-requires-then-p-b
-end_effect-requires-then-p-b c = let h = c.requires.2.2.both.second in (c.requires.0, c.requires.1, h.inside, end_worded h)
+end_effect-requires-then-p-b c = let h = c.requires.2.both.second in (h.inside, end_worded h)
 
 pub returns-then-p-b : goal.returns-then-p-b
 unfolding effect_of
 returns-then-p-b c = (
   λ es n r. rw (ne_eqb c.args.p c.args.a c.if-p-a.false, eq-eqb c.args.p c.args.b c.if-p-b.true) (end_is r.both.second c.end_effect-then-p-b.ensures),
-  end_fits c.requires.2.2.both.second c.end_effect-then-p-b.ensures,
+  end_fits c.requires.2.both.second c.end_effect-then-p-b.ensures,
 )
 
 -- neither
-pub common_effect-requires : goal.common_effect-requires
-common_effect-requires c =
-    let r = c.requires.2.2 in (
-      c.requires.0,
-      c.requires.1,
-      (c.requires.2.0, c.requires.2.1, c.args.a, c.args.b, record { both = r.both; affected = r.affected; shared = r.shared c.if-p-a.false c.if-p-b.false }),
-    )
-
 pub returns : goal.returns
 unfolding effect_of
 returns c = (

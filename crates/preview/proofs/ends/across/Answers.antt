@@ -1,32 +1,32 @@
 -- `preview::ends::across` meets its contract. Assumes nothing.
-use mathlib.Core.Path.{sym}
-use native.Mathlib.Omega.{arith}
+use Rattle.std.proofs.Common.{ap, cond, get_or, sym, ◌∙◌, ℕ}
 use Rattle.arith.proofs.Sums.{fill_end, fill_step, fill_to_none}
-use Rattle.ego.proofs.WordLaws.{node_small}
+use Rattle.arith.specs.Digits.{bit_of}
+use Rattle.arith.specs.Sums.{pack_to}
+use Rattle.ego.specs.Inside.Words.{word_count}
+use Rattle.packed.specs.Edges.{edge}
+use Rattle.preview.proofs.EndLaws.{fill_kept}
 use Rattle.preview.specs.Inside.Ends.{crossing_of}
 use Rattle.preview.proofs.ends.across.Goals as goal
-
-pub bounds-words-at : goal.bounds-words-at
-bounds-words-at c = omega (arith, c.requires.inside, c.requires.start.few)
+use Rattle.preview.proofs.ends.across.Goals.{then-not-has_bit, else-not-has_bit}
 
 pub loop-k-init : goal.loop-k-init
 loop-k-init c = sym (fill_to_none _ _)
 
-pub bounds-nodes-k : goal.bounds-nodes-k
-bounds-nodes-k c = omega (arith, c.requires.start.few)
-
-pub overflow_cast-nodes : goal.overflow_cast-nodes
-overflow_cast-nodes c = omega (arith, node_small c.requires.start c.loop-k.k c.loop-k-test.true)
-
-pub word_unless-requires : goal.word_unless-requires
-word_unless-requires c = (omega (arith, c.requires.start.few), c.requires.stop, c.requires.start.room c.loop-k.k c.loop-k-test.true)
-
--- the turn's word has a place
-pub bounds-crossing-k : goal.bounds-crossing-k
-bounds-crossing-k c = omega (arith, c.requires.start.few)
-
 pub loop-k-preserved : goal.loop-k-preserved
-loop-k-preserved c = fill_step _ _ c.loop-k.k c.loop-k.invariant c.word_unless.ensures
+loop-k-preserved c =
+    let from = c.args.from.now in
+    let to = c.args.to.now in
+    let k = c.loop-k.k in
+    let linked = bit_of (get_or from.words from.at 0) in
+    let word = λ (m : ℕ). pack_to (λ j. edge c.args.edges.now (get_or from.near.nodes m 0) (get_or to.near.nodes j 0)) to.near.count in
+    elim c.if-not-has_bit.branch [
+      | then-not-has_bit w ↦
+          w.crossing-is ∙ fill_step _ _ k c.loop-k.invariant (w.word_of.ensures ∙ sym (ap (λ b. cond b 0 (word k)) (sym c.has_bit.ensures ∙ w.if-not-has_bit.true)))
+      | else-not-has_bit w ↦
+          w.crossing-is
+          ∙ fill_kept (λ m. cond (linked m) 0 (word m)) word_count k c.loop-k.invariant (ap (λ b. cond b 0 (word k)) (sym c.has_bit.ensures ∙ w.if-not-has_bit.false))
+    ]
 
 pub returns : goal.returns
 unfolding crossing_of

@@ -1,4 +1,4 @@
--- The loop of `preview::ends::across`: the first k words are those of the first k nodes. Assumes nothing.
+-- The first k words are those of the first k nodes.
 use Rattle.std.proofs.Common.{cond, get_or, replicate, ◌≡◌}
 use Rattle.arith.specs.Digits.{bit_of}
 use Rattle.arith.specs.Inside.Fill.{fill_to}
@@ -10,4 +10,4 @@ use Rattle.preview.proofs.ends.across.Given as goal
 abbrev pub invariant-loop-k : goal.invariant-loop-k
 invariant-loop-k l =
     l.crossing
-    ≡ fill_to (λ m. cond (bit_of l.near m) 0 (pack_to (λ j. edge l.edges (get_or l.nodes m 0) (get_or l.others j 0)) l.to.count)) (replicate word_count 0) l.k
+    ≡ fill_to (λ m. cond (bit_of l.linked m) 0 (pack_to (λ j. edge l.edges (get_or l.from.near.nodes m 0) (get_or l.to.near.nodes j 0)) l.to.near.count)) (replicate word_count 0) l.k

@@ -1,33 +1,24 @@
 -- `schedule::change::next_change` meets its contract. Assumes nothing.
-use Rattle.std.proofs.Common.{arith, sym, ◌∙◌}
-use Rattle.schedule.proofs.ChangeLaws.{answers_at, answers_never, answers_refused}
+use Rattle.std.proofs.Common.{refl, sym, ◌∙◌}
+use Rattle.state.proofs.AnswerLaws.{number_some}
+use Rattle.schedule.proofs.ChangeLaws.{answers_found, answers_refused}
 use Rattle.schedule.proofs.RecordLaws.{form_refused, form_rest, form_some, valid_by}
 use Rattle.schedule.proofs.change.next_change.Goals as goal
 
-pub returns-then-form-ne0 : goal.returns-then-form-ne0
-returns-then-form-ne0 c = answers_refused _ _ (form_refused _ c.form_refusal-form.ensures c.if-form-ne0.true _) c.if-form-ne0.true
+pub returns-in_err-check_form : goal.returns-in_err-check_form
+returns-in_err-check_form c = answers_refused _ _ _ _ c.from_residual.ensures.1 (form_refused _ c.in_err-check_form.ensures (number_some _) _)
 
 -- after the form the records decide
-pub returns-then-records-ne0 : goal.returns-then-records-ne0
-returns-then-records-ne0 c =
-    let decided = form_rest _ c.form_refusal-form.ensures c.if-form-ne0.false _ in
-    answers_refused _ _ (c.record_refusal-records.ensures ∙ sym decided) c.if-records-ne0.true
-
-pub returns-then-first-lt-MINUTES : goal.returns-then-first-lt-MINUTES
-returns-then-first-lt-MINUTES c =
-    let decided = form_rest _ c.form_refusal-form.ensures c.if-form-ne0.false _ in
-    answers_at _ _ (decided ∙ sym c.record_refusal-records.ensures ∙ c.if-records-ne0.false) c.first_change-first.ensures c.if-first-lt-MINUTES.true
+pub returns-in_err-check_records : goal.returns-in_err-check_records
+returns-in_err-check_records c =
+    answers_refused _ _ _ _ c.from_residual-in_err-check_records.ensures.1
+    (c.in_err-check_records.ensures ∙ sym (form_rest _ c.in_ok-check_form.ensures refl _))
 
 pub returns : goal.returns
-returns c =
-    let decided = form_rest _ c.form_refusal-form.ensures c.if-form-ne0.false _ in
-    answers_never _ _ (decided ∙ sym c.record_refusal-records.ensures ∙ c.if-records-ne0.false) c.first_change-first.ensures c.if-first-lt-MINUTES.false
+returns c = answers_found _ _ (form_rest _ c.in_ok-check_form.ensures refl _ ∙ sym c.in_ok-check_records.ensures) c.first_change.ensures
 
-pub record_refusal-records-requires : goal.record_refusal-records-requires
-record_refusal-records-requires c = form_some _ c.form_refusal-form.ensures c.if-form-ne0.false
+pub check_records-requires : goal.check_records-requires
+check_records-requires c = form_some _ c.in_ok-check_form.ensures refl
 
--- the first byte is a byte
-pub first_change-first-requires : goal.first_change-first-requires
-first_change-first-requires c =
-    valid_by _ (form_some _ c.form_refusal-form.ensures c.if-form-ne0.false) (omega (arith, c.type_inv.schedule 0))
-    (sym c.record_refusal-records.ensures ∙ c.if-records-ne0.false)
+pub first_change-requires : goal.first_change-requires
+first_change-requires c = valid_by _ (c.type_inv.schedule 0) c.in_ok-check_form.ensures c.in_ok-check_records.ensures

@@ -1,11 +1,8 @@
 -- `schedule::sheet::make_at` meets its contract. Assumes nothing.
-use Rattle.std.proofs.Common.{ap₂, arith, get_or, length-set, ◌-◌, ◌∙◌, ◌∷◌, ◌≡◌}
-use Rattle.calls.proofs.MadeLaws.{headed_long, headed_put, headed_rest}
+use Rattle.std.proofs.Common.{ap₂, arith, get_or, ◌-◌, ◌∙◌, ◌∷◌, ◌≡◌}
+use Rattle.calls.proofs.MadeLaws.{headed_put, headed_rest}
 use Rattle.schedule.specs.Schedule.{schedule_nodes}
 use Rattle.schedule.proofs.sheet.make_at.Goals as goal
-
-pub bounds-snapshot-0 : goal.bounds-snapshot-0
-bounds-snapshot-0 c = omega (arith, headed_long (get_or c.args.schedule.now 0 0) c.requires.1, length-set c.args.snapshot.now 0 (get_or c.args.schedule.now 0 0))
 
 pub link_all-requires : goal.link_all-requires
 link_all-requires c = (c.requires.0, headed_rest (get_or c.args.schedule.now 0 0) c.requires.1)

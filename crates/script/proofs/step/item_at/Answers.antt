@@ -30,33 +30,33 @@ run_of-record-requires c =
     let r = left_room c.args.script.now c.args.at c.bits_left-left.result c.bits_left-left.ensures c.if-left-lt-RECORD_BITS.false in
     (omega arith, omega arith, omega (arith, r.1, c.if-left-lt-RECORD_BITS.false))
 
-pub returns-then-kind-eq1 : goal.returns-then-kind-eq1
-returns-then-kind-eq1 c = item_add _ _
-    (found _ _ c.bits_left-left.ensures c.if-left-lt-RECORD_BITS.false c.run_of-record.ensures c.field-kind.ensures c.field-a.ensures c.field-b.ensures)
-    c.if-kind-eq1.true
+pub returns-in-1 : goal.returns-in-1
+returns-in-1 c = item_add _ _
+    (found _ _ c.bits_left-left.ensures c.if-left-lt-RECORD_BITS.false c.run_of-record.ensures c.field.ensures c.field-a.ensures c.field-b.ensures)
+    c.in-1.is
 
-pub returns-then-kind-eq2 : goal.returns-then-kind-eq2
-returns-then-kind-eq2 c = item_remove _ _
-    (found _ _ c.bits_left-left.ensures c.if-left-lt-RECORD_BITS.false c.run_of-record.ensures c.field-kind.ensures c.field-a.ensures c.field-b.ensures)
-    c.if-kind-eq2.true
+pub returns-in-2 : goal.returns-in-2
+returns-in-2 c = item_remove _ _
+    (found _ _ c.bits_left-left.ensures c.if-left-lt-RECORD_BITS.false c.run_of-record.ensures c.field.ensures c.field-a.ensures c.field-b.ensures)
+    c.in-2.is
 
--- of kind 3, and of the kind that is left
-pub returns-then-b-ne0 : goal.returns-then-b-ne0
-returns-then-b-ne0 c = item_list_b _ _
-    (found _ _ c.bits_left-left.ensures c.if-left-lt-RECORD_BITS.false c.run_of-record.ensures c.field-kind.ensures c.field-a.ensures c.field-b.ensures)
-    c.if-kind-eq3.true c.if-b-ne0.true
+pub returns-in-3 : goal.returns-in-3
+returns-in-3 c = item_list _ _
+    (found _ _ c.bits_left-left.ensures c.if-left-lt-RECORD_BITS.false c.run_of-record.ensures c.field.ensures c.field-a.ensures c.field-b.ensures)
+    c.in-3.is c.if-b-eq0.true
 
-pub returns-then-kind-eq3 : goal.returns-then-kind-eq3
-returns-then-kind-eq3 c = item_list _ _
-    (found _ _ c.bits_left-left.ensures c.if-left-lt-RECORD_BITS.false c.run_of-record.ensures c.field-kind.ensures c.field-a.ensures c.field-b.ensures)
-    c.if-kind-eq3.true c.if-b-ne0.false
+pub returns-in-0 : goal.returns-in-0
+returns-in-0 c = item_other _ _
+    (found _ _ c.bits_left-left.ensures c.if-left-lt-RECORD_BITS.false c.run_of-record.ensures c.field.ensures c.field-a.ensures c.field-b.ensures)
+    (λ e. omega (arith, c.in-0.is, e)) (λ e. omega (arith, c.in-0.is, e)) (λ e. omega (arith, c.in-0.is, e)) (sym c.ends_script.ensures ∙ c.if-ends_script.true)
 
-pub returns-then-ends_script : goal.returns-then-ends_script
-returns-then-ends_script c = item_other _ _
-    (found _ _ c.bits_left-left.ensures c.if-left-lt-RECORD_BITS.false c.run_of-record.ensures c.field-kind.ensures c.field-a.ensures c.field-b.ensures)
-    c.if-kind-eq1.false c.if-kind-eq2.false c.if-kind-eq3.false (sym c.ends_script.ensures ∙ c.if-ends_script.true)
+-- of kind 3, and of kind 0
+pub returns-in_default : goal.returns-in_default
+returns-in_default c = item_list_b _ _
+    (found _ _ c.bits_left-left.ensures c.if-left-lt-RECORD_BITS.false c.run_of-record.ensures c.field.ensures c.field-a.ensures c.field-b.ensures)
+    c.in-3.is c.if-b-eq0.false
 
-pub returns : goal.returns
-returns c = item_other _ _
-    (found _ _ c.bits_left-left.ensures c.if-left-lt-RECORD_BITS.false c.run_of-record.ensures c.field-kind.ensures c.field-a.ensures c.field-b.ensures)
-    c.if-kind-eq1.false c.if-kind-eq2.false c.if-kind-eq3.false (sym c.ends_script.ensures ∙ c.if-ends_script.false)
+pub returns-in_default-2 : goal.returns-in_default-2
+returns-in_default-2 c = item_other _ _
+    (found _ _ c.bits_left-left.ensures c.if-left-lt-RECORD_BITS.false c.run_of-record.ensures c.field.ensures c.field-a.ensures c.field-b.ensures)
+    (λ e. omega (arith, c.in-0.is, e)) (λ e. omega (arith, c.in-0.is, e)) (λ e. omega (arith, c.in-0.is, e)) (sym c.ends_script.ensures ∙ c.if-ends_script.false)

@@ -3,7 +3,4 @@ use Rattle.state.proofs.DegreeLaws.{over_by}
 use Rattle.state.proofs.crowded.any_over.Goals as goal
 
 pub returns : goal.returns
-returns c =
-    let counted = c.before.before in
-    let s = counted.before.before in
-    over_by s.args.edges.now s.args.n s.requires.few counted.degrees_of-degrees.ensures c.any_among.ensures
+returns c = over_by c.args.edges.now c.args.n c.requires.few c.degrees_of-degrees.ensures c.any_among.ensures

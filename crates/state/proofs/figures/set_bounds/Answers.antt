@@ -9,9 +9,6 @@ use Rattle.packed.proofs.SetLaws.{in_set_lem}
 use Rattle.packed.specs.Inside.Rows.{in_set}
 use Rattle.state.proofs.figures.set_bounds.Goals as goal
 
-pub rows_within-below-requires : goal.rows_within-below-requires
-rows_within-below-requires c = c.requires.room
-
 pub loop-p-init : goal.loop-p-init
 loop-p-init c = filling_none _ _
 

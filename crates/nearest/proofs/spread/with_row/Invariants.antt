@@ -1,8 +1,0 @@
--- After k turns the first k words have the row's nodes, and the others are as they were.
-use Rattle.std.proofs.Common.{bit_or, get_or, length, ◌*◌, ◌+◌}
-use Rattle.arith.proofs.Sums.{Filling}
-use Rattle.nearest.specs.Inside.Strips.{strips}
-use Rattle.nearest.proofs.spread.with_row.Given as goal
-
-abbrev pub invariant-loop-k : goal.invariant-loop-k
-invariant-loop-k l = Filling (λ k'. bit_or (get_or l.initial.r k' 0) (get_or l.rows (strips * l.q + k') 0)) l.initial.r (length l.initial.r) l.r l.k

@@ -1,7 +1,0 @@
--- `nearest::strips::with` meets its contract. Assumes nothing.
-use Rattle.std.proofs.Common.{arith}
-use Rattle.nearest.proofs.SetLaws.{set_with}
-use Rattle.nearest.proofs.strips.with.Goals as goal
-
-pub returns : goal.returns
-returns c = set_with c.args.set c.args.q c.requires.0 (omega arith) c.requires.1 c.bit_of.ensures
