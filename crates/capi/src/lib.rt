@@ -1,4 +1,5 @@
 // The calls that a C program makes: include/fuortsjam.h declares them. The number of nodes is given, and the figures are bytes.
+// Each is a function of its own that answers a refusal by its number, and takes the three buffers one by one: that is what C can call.
 #![tactic(auto)]
 
 pub mod figures;

@@ -13,8 +13,8 @@ fn unite_row(set: &mut Strips, rows: &[u64], q: usize)
     requires { (q < max_nodes) × Table rows.now × Narrow set.old }
     ensures { SetOf set.new (λ y. in_strips set.old y || in_row rows.now q y) }
 {
-    for k in 0..STRIPS {
-        set[k] |= rows[STRIPS * q + k];
+    for (k, word) in set.iter_mut().enumerate() {
+        *word |= rows[STRIPS * q + k];
     }
 }
 
@@ -37,8 +37,8 @@ pub(crate) fn linked_to(rows: &[u64], set: Strips) -> Strips
     ensures { SetOf result (λ y. any_to (λ x. in_strips set x && in_row rows.now x y) max_nodes) }
 {
     let mut linked = empty();
-    for k in 0..STRIPS {
-        unite_rows(&mut linked, rows, set[k], k);
+    for (k, word) in set.iter().enumerate() {
+        unite_rows(&mut linked, rows, *word, k);
     }
     linked
 }

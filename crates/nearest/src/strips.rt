@@ -48,8 +48,8 @@ pub(crate) fn unite(set: &mut Strips, other: Strips)
     requires { Narrow set.old × Narrow other }
     ensures { SetOf set.new (λ q. in_strips set.old q || in_strips other q) }
 {
-    for k in 0..STRIPS {
-        set[k] |= other[k];
+    for (k, word) in set.iter_mut().enumerate() {
+        *word |= other[k];
     }
 }
 
@@ -66,8 +66,8 @@ pub(crate) fn first_of(set: Strips) -> Option<usize>
     requires { Narrow set }
     ensures { FirstIn (in_strips set) 0 places result }
 {
-    for k in 0..STRIPS {
-        let found = first_one(set[k], 64 - MAX_RUN);
+    for (k, word) in set.iter().enumerate() {
+        let found = first_one(*word, 64 - MAX_RUN);
         if found < 64 {
             return Some(MAX_RUN * k + (found - (64 - MAX_RUN)));
         }

@@ -47,6 +47,7 @@ fn link_row(edges: &[u8], rows: &mut [u64], b: usize)
     requires { Room (b + 1) edges.now × Rows (edge edges.now) b rows.old }
     ensures { Rows (edge edges.now) (b + 1) rows.new }
 {
+    // By number: what is written in the row of b goes at once into other rows of the same table, which a walk over the row would hold.
     for k in 0..b.div_ceil(MAX_RUN) {
         let word = word_below(edges, b, k);
         rows[STRIPS * b + k] = word;

@@ -1,4 +1,5 @@
 // For comparison with other programs only: the calls that the C interface leaves out, with figures as 64-bit numbers.
+// Each is a function of its own that answers a refusal by its number, and takes its buffers one by one: that is what C can call.
 #![tactic(auto)]
 
 ghost use Rattle.std.specs.Prelude.{◌≡◌};

@@ -5,19 +5,17 @@ use mathlib.Core.Logic.{◌≢◌}
 use mathlib.Core.Path.{ap, ap₂, subst, sym, ◌∙◌, ◌≡◌}
 use Prim.Native.Nat.{◌*◌, ◌+◌, ◌<◌, ◌^◌, ℕ, ◌≤◌}
 use native.Mathlib.Omega.{arith}
-use lib.ListN.{get_or, length, length-replicate, replicate}
+use lib.ListN.{get_or, length, length-replicate, replicate, set}
 use lib.Dec.{eqb}
-use Rattle.arith.proofs.Sums.{fill_length, fill_step, get_or_fill_to, get_or_fill_to_past, sum_to_ext}
-use Rattle.arith.specs.Inside.Fill.{fill_to}
+use Rattle.arith.proofs.Sums.{fill_length, Filling, filling_more, get_or_fill_to, get_or_fill_to_past, sum_to_ext}
 use Rattle.packed.proofs.BitLaws.{zero_at}
-use lib.Seq.{set-get_or}
 use native.Mathlib.Nat.{le_refl}
 use Rattle.arith.specs.Digits.{bit_of}
 use Rattle.arith.specs.Sums.{bit, pack_to}
 use Rattle.edits.proofs.EditLaws.{edge_apart}
 use Rattle.ego.proofs.FoundLaws.{Found, node_linked, node_place}
 use Rattle.ego.proofs.WordLaws.{link_self, word_bit}
-use Rattle.std.proofs.Common.{IsSome, Option}
+use Rattle.std.proofs.Common.{get_or-take, IsSome, Option, take}
 use Rattle.ego.specs.Graph.{degree}
 use Rattle.ego.specs.Inside.Words.{Ascending, link_at, shared_bits, word_count}
 use Rattle.ego.specs.Limits.{limit}
@@ -69,10 +67,11 @@ module _ (es : List ℕ) {n a b : ℕ} (s : Affected es n a b a) where
 -- ---- the words from one end to the other
 
 -- a turn that leaves a 0 where it is
-pub fill_kept : (f : ℕ → ℕ) (n k : ℕ) {l : List ℕ} → l ≡ fill_to f (replicate n 0) k → f k ≡ 0 → l ≡ fill_to f (replicate n 0) (k + 1)
-fill_kept f n k {l} e z =
-    let here : get_or l k 0 ≡ f k = ap (λ a. get_or a k 0) e ∙ get_or_fill_to_past f (replicate n 0) 0 k k (le_refl k) ∙ zero_at n k ∙ sym z in
-    sym (set-get_or l k 0) ∙ fill_step f (replicate n 0) k e here
+pub filling_kept : (m : ℕ) {f : ℕ → ℕ} {n k : ℕ} {l : List ℕ} → Filling f (take n (replicate m 0)) n l k → k < n → f k ≡ 0
+    → Filling f (take n (replicate m 0)) n (set l k (get_or l k 0)) (k + 1)
+filling_kept m {f} {n} {k} {l} w h z =
+    let zero_there : get_or (take n (replicate m 0)) k 0 ≡ 0 = rw get_or-take (zero_at m k) in
+    filling_more w h (ap (λ a. get_or a k 0) w.done ∙ get_or_fill_to_past f _ 0 k k (le_refl k) ∙ zero_there ∙ sym z)
 
 module _ (es : List ℕ) (from to : End) (few : from.near.count ≤ limit) {crossing : List ℕ} (c : crossing ≡ crossing_of es from to) where
   abbrev word : ℕ → ℕ

@@ -74,9 +74,9 @@ fn across(edges: &[u8], from: &End, to: &End) -> [Word; WORDS]
 {
     let linked = from.words[from.at];
     let mut crossing: [Word; WORDS] = [0; WORDS];
-    for k in 0..from.near.count {
+    for (k, word) in crossing[..from.near.count].iter_mut().enumerate() {
         if !has_bit(linked, k) {
-            crossing[k] = word_of(edges, from.near.nodes[k] as usize, &to.near);
+            *word = word_of(edges, from.near.nodes[k] as usize, &to.near);
         }
     }
     crossing

@@ -12,6 +12,7 @@ pub(crate) fn read_full<R: Read>(reader: &mut R, buffer: &mut [u8]) -> io::Resul
     ensures end { IfOk result (λ n. n < length buffer.new → IsAtEnd (R.remaining reader.new)) }
 {
     let mut done = 0;
+    // No method of the library reads to the end of an input into lent memory.
     while done < buffer.len() {
         let n = reader.read(&mut buffer[done..])?;
         if n == 0 {

@@ -15,7 +15,7 @@ use Rattle.arith.proofs.Sums.{any_to_false}
 use Rattle.arith.proofs.Tests.{or_false_both, test}
 use Rattle.arith.specs.Sums.{any_to, tabulate}
 use Rattle.packed.specs.Pairs.{max_nodes}
-use Rattle.state.proofs.PairConditions.{earlier_tests, From, from_more, from_none, pairs_each, pairs_more, pairs_nil, pairs_rest, two_tests}
+use Rattle.state.proofs.PairConditions.{earlier_first, earlier_tests, From, from_more, from_none, pairs_each, pairs_more, pairs_nil, pairs_rest, two_tests}
 use Rattle.state.proofs.RefusalLaws.{append_none, append_refused}
 use Rattle.state.specs.Inside.Earlier.{earlier}
 use Rattle.state.specs.Refusal.{Condition, no_hours, pair_conditions, refusal}
@@ -23,6 +23,13 @@ use Rattle.calls.proofs.AcceptLaws.{passes}
 use Rattle.schedule.specs.Schedule.{bad_schedule, conditions_to, opening_at, record_bytes, record_conditions, record_count, schedule_nodes}
 use Rattle.schedule.specs.Inside.Records.{opening_conditions, Sound, Sounds, Valid}
 use Rattle.schedule.specs.declared.records.Opening.{Opening}
+
+-- ---- the refusal of those before a record that passes
+
+pub earlier_passed : (x : ℕ) → earlier x 0 ≡ x
+unfolding earlier
+earlier_passed zero = refl
+earlier_passed (suc x) = earlier_first (suc x) 0 (λ e. omega (arith, e)) (λ d. absurd (d refl))
 
 -- ---- the form
 

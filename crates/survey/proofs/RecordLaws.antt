@@ -2,12 +2,13 @@
 use mathlib.Core.Bool.{Bool, false, true, ◌&&◌}
 use mathlib.Core.List.{List, [], ◌∷◌}
 use mathlib.Core.Path.{ap, refl, sym, ◌∙◌, ◌≡◌}
-use Prim.Native.Nat.{◌+◌, ℕ}
+use Prim.Native.Nat.{◌+◌, suc, zero, ℕ}
 use native.Mathlib.Numerals.{add-one}
+use native.Mathlib.Omega.{arith}
 use lib.Dec.{leb}
 use Rattle.arith.specs.Sums.{tabulate}
 use Rattle.packed.specs.Pairs.{same_pair}
-use Rattle.state.proofs.PairConditions.{pairs_cat, pairs_nil}
+use Rattle.state.proofs.PairConditions.{earlier_first, pairs_cat, pairs_nil}
 use Rattle.state.specs.Inside.Earlier.{earlier}
 use Rattle.state.specs.Refusal.{pair_conditions, refusal}
 use Rattle.survey.specs.Survey.{is_for, measurement_at, pairs_to}
@@ -16,6 +17,12 @@ use Rattle.std.proofs.Common.{None, Option, Some}
 use Rattle.survey.specs.Inside.Walk.{last_to, number_at, position_at}
 
 -- ---- the refusals
+
+-- a record that passes leaves the refusal of those before it
+pub earlier_passed : (x : ℕ) → earlier x 0 ≡ x
+unfolding earlier
+earlier_passed zero = refl
+earlier_passed (suc x) = earlier_first (suc x) 0 (λ e. omega (arith, e)) (λ d. absurd (d refl))
 
 module _ (survey : List ℕ) (n : ℕ) where
   pub pairs_none : refusal (pair_conditions n (pairs_to survey 0)) ≡ 0

@@ -3,15 +3,16 @@ use mathlib.Core.List.{List}
 use mathlib.Core.Logic.{inl, inr}
 use mathlib.Core.Path.{ap, refl, subst, sym, ◌∙◌, ◌≡◌}
 use Prim.Native.Nat.{◌<◌, suc, zero, ℕ, ◌≤◌}
-use native.Mathlib.Decide.{ℕ_discrete}
+use native.Mathlib.Decide.{dec_lt, ℕ_discrete}
 use native.Mathlib.Omega.{arith}
 use borrow.Author.Tests.{eq-eqb, le-ltb, lt-ltb, ne_eqb}
 use lib.ListN.{get_or, length}
+use Rattle.std.proofs.Common.{None, Option, Some}
 use Rattle.arith.proofs.Tests.{test}
 use Rattle.topk.proofs.Order.{ahead_asym, ahead_behind, Behind, behind_self}
 use Rattle.topk.specs.Entries.{Entry, entry, ranks_before}
 use Rattle.topk.specs.Steps.{at, best_below, better, Next, nothing, Progress, stored}
-use Rattle.topk.specs.Inside.Next.{looking, next, next_of}
+use Rattle.topk.specs.Inside.Next.{looking, next, next_of, node_of}
 
 -- node q with its figure in F
 abbrev pub figure_of : List ℕ → ℕ → Entry
@@ -79,6 +80,33 @@ next_of_node h = rw (lt-ltb _ _ h)
 pub next_of_none : {n p : ℕ} → n ≤ p → next_of n p ≡ nothing
 unfolding next_of
 next_of_none h = rw (le-ltb _ _ h)
+
+-- the number that the code answers for what is next
+abbrev number_of : ℕ → Next → ℕ
+number_of n nothing = n
+number_of n (at p) = p
+
+number_of_lem : {n p : ℕ} → p ≤ n → number_of n (next_of n p) ≡ p
+number_of_lem {n} {p} h = elim (dec_lt p n) [
+  | yes l ↦ rw (next_of_node l)
+  | no l ↦ rw (next_of_none {n = n} {p = p} (omega arith)) (omega arith)
+]
+
+-- so what is next fixes the number
+pub next_unique : {n p q : ℕ} → p ≤ n → q ≤ n → next_of n p ≡ next_of n q → p ≡ q
+next_unique {n} h l e = sym (number_of_lem h) ∙ ap (number_of n) e ∙ number_of_lem l
+
+-- and the node, if there is one
+abbrev as_option : Next → Option ℕ
+as_option nothing = None
+as_option (at p) = Some p
+
+as_option_lem : (r : Option ℕ) → as_option (node_of r) ≡ r
+as_option_lem None = refl
+as_option_lem (Some p) = refl
+
+pub node_unique : {r s : Option ℕ} → node_of r ≡ node_of s → r ≡ s
+node_unique {r} {s} e = sym (as_option_lem r) ∙ ap as_option e ∙ as_option_lem s
 
 -- what is next goes by the figures and the taken nodes alone
 pub best_looking : (s : Progress) (i : ℕ) → best_below (looking s.figures s.taken) i ≡ best_below s i

@@ -1,4 +1,5 @@
 // The kept entries in their buffer, best first: entry i has its node at 2i and its figure at 2i + 1.
+// The buffer is lent for k entries, of which `kept` are there: a slice of these alone could not take one more.
 ghost use Rattle.std.specs.Prelude.{◌≡◌, ◌+◌, ◌*◌, ◌<◌, ◌≤◌, min, length, set};
 ghost use Rattle.topk.specs.Entries.{keep, ranks_before, stops, entries_of};
 ghost use Rattle.topk.specs.Inside.Layout.{place, entry_in, entry_put_in, Kept, Ordered};

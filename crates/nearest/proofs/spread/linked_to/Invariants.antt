@@ -3,4 +3,4 @@ use Rattle.nearest.proofs.SpreadLaws.{Linked}
 use Rattle.nearest.proofs.spread.linked_to.Given as goal
 
 abbrev pub invariant-loop-k : goal.invariant-loop-k
-invariant-loop-k l = Linked l.rows l.set l.linked l.k
+invariant-loop-k l = Linked l.rows l.fn.set l.linked l.k

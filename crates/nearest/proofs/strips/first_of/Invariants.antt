@@ -6,4 +6,4 @@ use Rattle.nearest.specs.Inside.Strips.{in_strips, places}
 use Rattle.nearest.proofs.strips.first_of.Given as goal
 
 abbrev pub invariant-loop-k : goal.invariant-loop-k
-invariant-loop-k l = Passed (in_strips l.set) 0 places (max_run * l.k)
+invariant-loop-k l = Passed (in_strips l.fn.set) 0 places (max_run * l.k)
