@@ -44,6 +44,16 @@ fn check_form(n: usize, snapshot: &[u8]) -> Result<(), Refusal>
     Ok(())
 }
 
+// Copies bytes to a slice of their length. No `copy_from_slice`: it calls `memmove`, which the archives for C would need from outside.
+pub fn copy(to: &mut [u8], from: &[u8])
+    requires { length to.old ≡ length from.now }
+    ensures { to.new ≡ from.now }
+{
+    for (i, byte) in to.iter_mut().enumerate() {
+        *byte = from[i];
+    }
+}
+
 // Takes the edges of a snapshot; every node takes its bound and becomes stale.
 pub fn load(
     edges: &mut [u8],
@@ -59,7 +69,7 @@ pub fn load(
     if any_over(&snapshot[1..], n) {
         return Err(Refusal::CrowdedAfter);
     }
-    edges.copy_from_slice(&snapshot[1..]);
+    copy(edges, &snapshot[1..]);
     set_bounds(edges, figures);
     set_stale(marks, n);
     Ok(())
@@ -78,7 +88,7 @@ fn copy_pairs(to: &mut [u8], edges: &[u8], n: usize)
     requires { (n ≤ max_nodes) × (length edges.now ≡ edge_bytes n) × (length to.old ≡ edge_bytes n) }
     ensures { to.new ≡ tabulate (λ k. snapshot_byte edges.now n (suc k)) (edge_bytes n) }
 {
-    to.copy_from_slice(edges);
+    copy(to, edges);
     let spare = 8 * edges.len() - row_start(n);
     if spare != 0 {
         let last = edges.len() - 1;

@@ -1,2 +1,3 @@
 -- The laws behind `replay`.
+pub mod DigitLaws
 pub mod ReadLaws

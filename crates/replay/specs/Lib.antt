@@ -1,2 +1,3 @@
 -- What the contracts of `replay` cite.
+pub mod Limits
 pub mod Lines

@@ -4,13 +4,12 @@
 mod input;
 mod lines;
 mod records;
+mod space;
 
-use script::step::MAX_BYTES;
 use std::io;
 
 fn main(rt: HostRuntime) -> io::Result<()> {
-    // One byte more than a script may have tells a longer input.
-    let mut script = [0; MAX_BYTES + 1];
+    let mut script = space::input();
     let count = input::read_full(&mut rt.reader(), &mut script)?;
     records::replay(&mut io::writer(&rt), &script[..count])
 }

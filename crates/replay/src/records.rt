@@ -4,15 +4,14 @@ ghost use Rattle.packed.specs.Pairs.{max_nodes};
 ghost use Rattle.script.specs.Record.{a_record};
 ghost use Rattle.script.specs.declared.step.Record.TheVariants.{ListFirst};
 
-use crate::lines;
+use crate::{lines, space};
 use calls::clear::clear;
 use edits::edit::{add, remove};
 use packed::edges::MAX_NODES;
 use script::reader::read;
 use script::step::{FIRST_RECORD, Item, MAX_BYTES, Malformed, Record};
 use state::refusal::number_of;
-use state::scratch::MAX_SCRATCH_BYTES;
-use state::sizes::{MAX_EDGE_BYTES, MAX_MARK_BYTES, edge_bytes, mark_bytes};
+use state::sizes::{edge_bytes, mark_bytes};
 use std::io;
 use std::io::Write;
 use topk::list::list;
@@ -37,8 +36,8 @@ fn do_list<W: Write>(
 ) -> io::Result<()>
     requires { k ≤ max_nodes }
 {
-    let mut entries = [0; 2 * MAX_NODES];
-    let mut scratch = [0; MAX_SCRATCH_BYTES];
+    let mut entries = space::entries();
+    let mut scratch = space::scratch();
     let end = 2 * k;
     let answer = list(edges, figures, marks, &mut entries[..end], &mut scratch);
     match answer {
@@ -115,9 +114,9 @@ fn from_cleared<W: Write>(
 fn on_nodes<W: Write>(out: &mut W, script: &[u8], n: usize) -> io::Result<()>
     requires { (0 < length script.now) × (0 < n) × (n ≤ max_nodes) }
 {
-    let mut edges = [0; MAX_EDGE_BYTES];
-    let mut figures = [0; MAX_NODES];
-    let mut marks = [0; MAX_MARK_BYTES];
+    let mut edges = space::edges();
+    let mut figures = space::figures();
+    let mut marks = space::marks();
     let edge_end = edge_bytes(n);
     let mark_end = mark_bytes(n);
     from_cleared(

@@ -48,8 +48,10 @@ impl Scope {
     {
         let mut table = Table {
             scope: self,
-            until: [self.minute; WINDOW],
+            until: [0; WINDOW],
         };
+        // The minute is filled in where the table lies: an array made of it would be copied there.
+        table.until.fill(self.minute);
         while table.pass(schedule) {}
         table.first(schedule)
     }

@@ -11,13 +11,13 @@ overflow_mul-spare c = omega (arith, c.requires.1, bytes_small c.args.n c.requir
 
 pub returns-else-spare-ne0 : goal.returns-else-spare-ne0
 returns-else-spare-ne0 c =
-    c.copy_from_slice.ensures.after
+    c.copy.ensures
     ∙ pairs_whole c.args.edges.now c.args.n (λ k. (c.type_inv.edges k).fits) c.requires.1
     (ap (λ m. 8 * length c.args.edges.now - m) (sym c.row_start.ensures) ∙ c.if-spare-ne0.false)
 
 pub returns-then-spare-ne0 : goal.returns-then-spare-ne0
 returns-then-spare-ne0 c =
     let last = length c.args.edges.now - 1 in
-    ap (λ l. set l last c.trimmed.result) c.copy_from_slice.ensures.after
+    ap (λ l. set l last c.trimmed.result) c.copy.ensures
     ∙ pairs_trimmed c.args.edges.now c.args.n (λ k. (c.type_inv.edges k).fits) c.requires.1 last (omega arith)
     (ap (λ m. 8 * length c.args.edges.now - m) c.row_start.ensures) c.if-spare-ne0.true c.trimmed.ensures

@@ -53,14 +53,14 @@ returns-then-any_over c =
     (load_crowded _ c.args.snapshot.now c.in_ok-check_form.ensures refl
     (sym (over c.args.snapshot.now _ c.any_over.ensures) ∙ c.if-any_over.true)) (λ q. omega arith)
 
-pub slice_bounds-copy_from_slice-count : goal.slice_bounds-copy_from_slice-count
-slice_bounds-copy_from_slice-count c = omega (arith, (fits_by _ c.args.snapshot.now [] c.in_ok-check_form.ensures refl).long)
+pub slice_bounds-copy-count : goal.slice_bounds-copy-count
+slice_bounds-copy-count c = omega (arith, (fits_by _ c.args.snapshot.now [] c.in_ok-check_form.ensures refl).long)
 
-pub slice_bounds-copy_from_slice-start : goal.slice_bounds-copy_from_slice-start
-slice_bounds-copy_from_slice-start c = omega (arith, (fits_by _ c.args.snapshot.now [] c.in_ok-check_form.ensures refl).long)
+pub slice_bounds-copy-start : goal.slice_bounds-copy-start
+slice_bounds-copy-start c = omega (arith, (fits_by _ c.args.snapshot.now [] c.in_ok-check_form.ensures refl).long)
 
-pub copy_from_slice-requires : goal.copy_from_slice-requires
-copy_from_slice-requires c =
+pub copy-requires : goal.copy-requires
+copy-requires c =
     let fits = fits_by _ c.args.snapshot.now [] c.in_ok-check_form.ensures refl in
     let fitted = fitted_by c.in_ok-check_state.ensures refl in
     fitted.sizes.edges_fit ∙ sym (part_length c.args.snapshot.now fits.long)
@@ -69,7 +69,7 @@ pub set_bounds-requires : goal.set_bounds-requires
 set_bounds-requires c =
     let fits = fits_by _ c.args.snapshot.now [] c.in_ok-check_form.ensures refl in
     let fitted = fitted_by c.in_ok-check_state.ensures refl in
-    copied_bounds fitted.sizes.few fits (c.copy_from_slice.ensures.after ∙ part_is c.args.snapshot.now)
+    copied_bounds fitted.sizes.few fits (c.copy.ensures ∙ part_is c.args.snapshot.now)
     (sym (over c.args.snapshot.now _ c.any_over.ensures) ∙ c.if-any_over.false)
 
 pub set_stale-requires : goal.set_stale-requires
@@ -82,4 +82,4 @@ returns c =
     let snapshot = c.args.snapshot.now in
     call_accepted given _ _ (fitted_by c.in_ok-check_state.ensures refl)
     (load_passed _ snapshot c.in_ok-check_form.ensures refl (sym (over snapshot _ c.any_over.ensures) ∙ c.if-any_over.false)) refl
-    (loaded_is _ (c.copy_from_slice.ensures.after ∙ part_is snapshot) c.set_bounds.ensures c.set_stale.ensures)
+    (loaded_is _ (c.copy.ensures ∙ part_is snapshot) c.set_bounds.ensures c.set_stale.ensures)

@@ -1,7 +1,7 @@
 -- `nearest::search::search` meets its contract. Each level has the nodes that are new after so many hops. Assumes nothing.
 use Rattle.std.proofs.Common.{ap, arith, nat_eq, ◌||◌, ◌∙◌, ◌+◌, ◌≡◌, ◌-◌}
 use Prim.Native.Nat.{zero-le}
-use Rattle.nearest.proofs.SearchLaws.{first_common, first_level, found_at, level_inside, next_fresh, next_level, none_further, none_within}
+use Rattle.nearest.proofs.SearchLaws.{first_common, first_level, found_at, level_inside, level_new, next_fresh, next_level, none_further, none_within}
 use Rattle.nearest.proofs.SetLaws.{set_ext}
 use Rattle.nearest.specs.Nearest.{nearest_of}
 use Rattle.nearest.proofs.search.search.Goals as goal
@@ -16,6 +16,7 @@ loop-hops-init c = (
   zero-le,
   first_common c.both.ensures c.in_default.ensures,
   λ g n l s. first_level s (set_ext c.insert.ensures (λ q b. ap (λ x. x || nat_eq q c.args.p) (c.empty-level.ensures.has q b))),
+  zero-le,
 )
 
 pub linked_to-requires : goal.linked_to-requires
@@ -49,6 +50,11 @@ loop-hops-preserved c = (
   λ g n l s.
       let hops : c.loop-hops.hops + 1 - 1 ≡ c.loop-hops.hops - 1 + 1 = omega arith in
       rw hops (next_level s (c.loop-hops.invariant.2 g n l s) c.loop-hops.invariant.1 c.linked_to.ensures c.without-next.ensures c.unite.ensures),
+  omega (
+    arith,
+    c.loop-hops.invariant.3,
+    level_new c.loop-hops.reached c.linked_to.result c.without-next.ensures c.unite.ensures c.in_ok-first_of.ensures.0 (λ e. omega (arith, e, c.in_ok-first_of.ensures.1)),
+  ),
 )
 
 -- no hop is allowed

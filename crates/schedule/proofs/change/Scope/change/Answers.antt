@@ -1,12 +1,16 @@
 -- `schedule::change::Scope::change` meets its contract. The pairs last as the table says. Assumes nothing.
-use Rattle.std.proofs.Common.{arith, refl, ◌∙◌}
+use Rattle.std.proofs.Common.{ap, arith, refl, replicate, ℕ, ◌∙◌}
+use Rattle.std.proofs.lemmas.List.{length-replicate}
+use Rattle.packed.specs.Inside.Windows.{window}
 use Rattle.schedule.proofs.ChangeLaws.{lasts_next, passes_fewer, rests_last}
 use Rattle.schedule.proofs.DifferLaws.{change_first}
 use Rattle.schedule.proofs.UntilLaws.{lasts_begin}
 use Rattle.schedule.proofs.change.Scope.change.Goals as goal
 
 pub loop-init : goal.loop-init
-loop-init c = (lasts_begin _ _ (omega arith), refl)
+loop-init c =
+    let filled = c.fill.ensures.after (λ y e. e) ∙ ap (λ k. replicate k c.args.self.minute) (length-replicate {A = ℕ} window 0) in
+    (rw filled (lasts_begin _ _ (omega arith)), refl)
 
 pub loop-smaller : goal.loop-smaller
 loop-smaller c =
